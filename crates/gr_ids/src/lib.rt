@@ -8,6 +8,8 @@ mod memory;
 mod names;
 mod quorum;
 mod sequence;
+#[cfg(test)]
+mod tests;
 mod uuids;
 
 pub use blob::Blob;
@@ -17,4 +19,4 @@ pub use memory::Memory;
 pub use names::{Ballot, Gtid, Inc, OpenParts, Pos, SessionId, ValueId};
 pub use quorum::majority;
 pub use sequence::Sequence;
-pub use uuids::{BadUuid, read_uuid, write_uuid};
+pub use uuids::{BadUuid, read_uuid, uuids_read_back, write_uuid};
