@@ -16,7 +16,7 @@ pub use blob::Blob;
 pub use levels::{Level, MemberState, Mode};
 pub use limits::Limits;
 pub use memory::Memory;
-pub use names::{Ballot, Gtid, Inc, OpenParts, Pos, SessionId, ValueId};
+pub use names::{Ballot, Gtid, Inc, LastNumber, OpenParts, Pos, SessionId, ValueId};
 pub use quorum::majority;
 pub use sequence::Sequence;
 pub use uuids::{BadUuid, read_uuid, uuids_read_back, write_uuid};

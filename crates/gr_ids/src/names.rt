@@ -67,3 +67,10 @@ pub struct OpenParts {
     pub held: u32,
     pub bytes: Blob,
 }
+
+/// An origin with the number of its last positive transaction.
+#[derive(Clone, Copy, Debug, PartialEq, Eq)]
+pub struct LastNumber {
+    pub inc: Inc,
+    pub number: u64,
+}

@@ -1,0 +1,33 @@
+// A set of GTIDs as its longest runs.
+ghost use Rattle.std.specs.Prelude.{◌≡◌, []};
+
+use crate::run::Run;
+use std::alloc::Global;
+use std::marker::Model;
+
+/// A set of GTIDs (MySQL 8.0 Reference Manual, GTID Sets). Contracts see it as the list of its longest runs,
+/// ascending by source, then number.
+#[derive(Debug, Drop)]
+pub struct GtidSet {
+    runs: Vec<Run>,
+}
+
+impl Model for GtidSet {
+    ghost use Rattle.std.specs.Prelude.{List};
+    ghost use Rattle.gtid_sets.specs.declared.run.Run.{Run};
+
+    ghost Value = { List Run };
+
+    ghost view = { λ s. s.runs.items };
+}
+
+impl GtidSet {
+    /// The empty set; takes no memory.
+    pub fn new(alloc: Global) -> Self
+        ensures { result ≡ [] }
+    {
+        GtidSet {
+            runs: Vec::new(alloc),
+        }
+    }
+}
