@@ -1,0 +1,13 @@
+pub mod Names
+pub mod Bytes
+pub mod Reads
+pub mod Slots
+pub mod Node
+pub mod View
+pub mod Events
+pub mod Life
+pub mod Watch
+pub mod ToldSlots
+pub mod Parts
+pub mod Told
+pub mod Certifier
