@@ -11,3 +11,10 @@ pub mod ToldSlots
 pub mod Parts
 pub mod Told
 pub mod Certifier
+pub mod Queue
+pub mod Commit
+pub mod Sessions
+pub mod Keys
+pub mod Rows
+pub mod Holds
+pub mod Member
