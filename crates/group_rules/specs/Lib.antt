@@ -18,3 +18,9 @@ pub mod Keys
 pub mod Rows
 pub mod Holds
 pub mod Member
+pub mod Calls
+pub mod Welcomes
+pub mod Recovery
+pub mod Points
+pub mod Taking
+pub mod Steps
