@@ -3,7 +3,7 @@ use Rattle.std.specs.Prelude.{ℕ, zero, suc, ◌+◌, ◌/◌, ◌%◌, ◌^◌
 use Rattle.gr_ids.specs.Names.{bytes_eq}
 use Rattle.key_items.specs.Items.{item_eq}
 use Rattle.gtid_sets.specs.Sets.{Gtids}
-use Rattle.group_rules.specs.Names.{Inc, ValueId, Gtid, Ballot, OpenParts, LastNumber, MemberState, Online, Mode, Single, Multi, Run, ToldSet, Item, KeptItem, Change, ChangeKind, Inserts, Updates, Deletes, Joiner, Value, Vote, What, Noop, Add, Remove, Says, Txn, Part, ToMulti, ToSingle, Body, Writes, Prepared, Sync, Executed, Arrives, Switches, Appoints, PartOf, Message, Wire, Prepare, Promise, Accept, Accepted, Learn, Offer, Greets, Asks, Gives, Alive, Gone, Welcome, WelcomeMember, Ask, Give, Given}
+use Rattle.group_rules.specs.Names.{Inc, ValueId, Gtid, Ballot, OpenParts, LastNumber, MemberState, Online, Mode, Single, Multi, Run, ToldSet, Item, KeptItem, Change, ChangeKind, Inserts, Updates, Deletes, Joiner, Value, Vote, What, Noop, Add, Remove, Says, Txn, Part, ToMulti, ToSingle, Body, Writes, Prepared, Sync, Executed, Arrives, Switches, Appoints, PartOf, Message, Wire, Prepare, Promise, Accept, Accepted, Learn, Offer, Greet, Asks, Gives, Alive, Gone, Welcome, WelcomeMember, Ask, Give, Given}
 
 -- the number in so many bytes
 abbrev pub number : ℕ → ℕ → List ℕ
@@ -135,7 +135,7 @@ wire_kind (Accept b t v) = 3
 wire_kind (Accepted b t) = 4
 wire_kind (Learn t v) = 5
 wire_kind (Offer v) = 6
-wire_kind (Greets w) = 7
+wire_kind (Greet w) = 7
 wire_kind (Asks a) = 8
 wire_kind (Gives g) = 9
 wire_kind (Alive n) = 10
@@ -149,7 +149,7 @@ wire_bytes (Accept b t v) = ballot_bytes b ++ number 8 t ++ value_bytes v
 wire_bytes (Accepted b t) = ballot_bytes b ++ number 8 t
 wire_bytes (Learn t v) = number 8 t ++ value_bytes v
 wire_bytes (Offer v) = value_bytes v
-wire_bytes (Greets w) = welcome_bytes w
+wire_bytes (Greet w) = welcome_bytes w
 wire_bytes (Asks a) = number 8 a.place ++ set_bytes a.executed
 wire_bytes (Gives g) = give_bytes g
 wire_bytes (Alive n) = number 8 n

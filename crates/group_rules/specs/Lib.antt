@@ -1,13 +1,10 @@
 pub mod Names
 pub mod Bytes
 pub mod Reads
-pub mod Slots
-pub mod Node
 pub mod View
 pub mod Events
 pub mod Life
 pub mod Watch
-pub mod ToldSlots
 pub mod Parts
 pub mod Told
 pub mod Certifier
@@ -24,3 +21,8 @@ pub mod Recovery
 pub mod Points
 pub mod Taking
 pub mod Steps
+pub mod Histories
+pub mod Looks
+pub mod World
+pub mod Script
+pub mod Texts

@@ -3,7 +3,10 @@ use Rattle.std.specs.Prelude.{ℕ, suc, true, false, Option, Some, None, List, [
 use Rattle.gr_ids.specs.Names.{id_eq}
 use Rattle.group_rules.specs.Names.{Inc, ValueId, Joiner, What, Says, Value, Body, Message, Wire, Error, Cause, Answer, MemberLeft, Undecided, NotAcknowledged}
 use Rattle.group_rules.specs.Bytes.{body_bytes}
-use Rattle.group_rules.specs.Node.{Node, Effect, own_value}
+use Rattle.node_rules.specs.declared.event.PaxosEvent.{PaxosEvent}
+use Rattle.node_rules.specs.declared.event.PaxosEvent.TheVariants.{Own}
+use Rattle.node_rules.specs.Node.{Node, Effect}
+use Rattle.node_rules.specs.Step.{node_step}
 use Rattle.group_rules.specs.Events.{Did, Made, Is, Answered, Ends, Life, Setup, Cert}
 use Rattle.group_rules.specs.Life.{last_made}
 use Rattle.group_rules.specs.Queue.{pending}
@@ -26,6 +29,10 @@ push d a = record a { life = d ∷ a.life }
 abbrev pub by_node : (Node → Effect) → Member → Member
 by_node f a = let e : Effect = f a.node in record a { node = e.node; sent = a.sent ++ e.sent }
 
+-- an event of its node
+abbrev pub at_node : PaxosEvent → Member → Member
+at_node e a = by_node (node_step e) a
+
 abbrev pub send : Inc → Wire → Member → Member
 send i x a = record a { sent = a.sent ++ record { from = a.me.inc; to = i; wire = x } ∷ [] }
 
@@ -37,7 +44,7 @@ next_id a = record { origin = a.me.inc; number = suc (last_made a.life) }
 
 -- a new own value; `holds` is what its place is to hold
 abbrev pub own : What → Option Body → Member → Member
-own w holds a = let v : Value = record { id = next_id a; what = w } in by_node (own_value v) (push (Made v holds) a)
+own w holds a = let v : Value = record { id = next_id a; what = w } in at_node (Own v) (push (Made v holds) a)
 
 abbrev pub own_body : Body → Member → Member
 own_body b a = own (Says (body_bytes b)) (Some b) a

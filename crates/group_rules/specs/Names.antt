@@ -35,7 +35,7 @@ pub use Rattle.txn_forms.specs.declared.body.Body.TheVariants.{Txn as Writes, Pr
 -- messages
 pub use Rattle.paxos_forms.specs.declared.message.Message.{Message}
 pub use Rattle.paxos_forms.specs.declared.message.Wire.{Wire}
-pub use Rattle.paxos_forms.specs.declared.message.Wire.TheVariants.{Prepare, Promise, Accept, Accepted, Learn, Offer, Welcome as Greets, Ask as Asks, Give as Gives, Alive, Gone}
+pub use Rattle.paxos_forms.specs.declared.message.Wire.TheVariants.{Prepare, Promise, Accept, Accepted, Learn, Offer, Welcome as Greet, Ask as Asks, Give as Gives, Alive, Gone}
 pub use Rattle.paxos_forms.specs.declared.welcome.Welcome.{Welcome}
 pub use Rattle.paxos_forms.specs.declared.welcome.WelcomeMember.{WelcomeMember}
 pub use Rattle.paxos_forms.specs.declared.recovery.Ask.{Ask}

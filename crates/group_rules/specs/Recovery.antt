@@ -8,7 +8,7 @@ use Rattle.group_rules.specs.Names.{Inc, LastNumber, OpenParts, What, Add, Remov
 use Rattle.group_rules.specs.Bytes.{body_bytes}
 use Rattle.group_rules.specs.Reads.{read_body}
 use Rattle.group_rules.specs.View.{View, seated, online_incs}
-use Rattle.group_rules.specs.Node.{Entry as SlotEntry}
+use Rattle.node_rules.specs.Learner.{learnt_remove}
 use Rattle.group_rules.specs.Events.{Restores, Gave, AskFails, Replied, Life, Setup, Entry, Cert}
 use Rattle.group_rules.specs.Life.{state, is_recovering, executed, view, upto, entry_at, entered, has_give}
 use Rattle.group_rules.specs.Told.{told, sets_of}
@@ -36,26 +36,15 @@ failures (_ ∷ l) = failures l
 abbrev pub fail_ask : Member → Member
 fail_ask a = let b : Member = push AskFails a in elim (nat_le 10 (failures b.life)) [ true ↦ fall (NoDonor 10) b | false ↦ b ]
 
--- the place and the slot of its Add
+-- the place of its Add
 abbrev pub add_place : Option Welcome → ℕ
 add_place None = 0
 add_place (Some w) = w.place
 
-abbrev pub add_slot : Option Welcome → ℕ
-add_slot None = 0
-add_slot (Some w) = w.slot
-
-abbrev pub removes : Inc → What → Bool
-removes d (Remove i) = inc_eq i d
-removes d w = false
-
--- a Remove of the donor is decided in a slot above that of the Add
-abbrev pub is_donor_lost : Member → Inc → Bool
-is_donor_lost a d = list_any {X = SlotEntry} (λ e. nat_lt (add_slot (entered a.life)) e.slot && removes d e.value.what) a.node.decided
-
+-- a Remove of the donor is decided in a slot above that of the Add (no slot was taken since)
 abbrev pub check_donor : Option Inc → Member → Member
 check_donor None a = a
-check_donor (Some d) a = elim (is_donor_lost a d) [ true ↦ fail_ask a | false ↦ a ]
+check_donor (Some d) a = elim (learnt_remove a.node.learner d) [ true ↦ fail_ask a | false ↦ a ]
 
 -- a pending ask fails where its donor's Remove is learnt
 abbrev pub check_ask : Member → Member

@@ -3,18 +3,18 @@ use Rattle.std.specs.Prelude.{ℕ, ◌+◌, ◌-◌, ◌%◌, Bool, true, false,
 use Rattle.std.specs.List.{list_any}
 use Rattle.gr_ids.specs.Names.{inc_eq, has_inc, bytes_eq}
 use Rattle.slot_values.specs.Log.{Group}
-use Rattle.group_rules.specs.Names.{Inc, Joiner, Online, Offline, What, Add, Remove, Says, Value, ToMulti, ToSingle, Body, Executed, Switches, Appoints, Message, Wire, Prepare, Accept, Offer, Greets, Asks, Gives, Gone, Campaign, Tell, Leave, SetPrimary, SetSingle, SetMulti, AskDonor, DonorFailed, Finish, Operator, Held, HoldTimeout, SentAs, AtBallot, Finished, IsNotOnline, NotQueued, AlreadyDone, Founded, Started, WasGone, NoMajority}
+use Rattle.group_rules.specs.Names.{Inc, Joiner, Online, Offline, What, Add, Remove, Says, Value, ToMulti, ToSingle, Body, Executed, Switches, Appoints, Message, Wire, Prepare, Accept, Offer, Greet, Asks, Gives, Gone, Campaign, Tell, Leave, SetPrimary, SetSingle, SetMulti, AskDonor, DonorFailed, Finish, Operator, Held, HoldTimeout, SentAs, AtBallot, Finished, IsNotOnline, NotQueued, AlreadyDone, Founded, Started, WasGone, NoMajority}
 use Rattle.group_rules.specs.View.{seated, online_incs}
-use Rattle.group_rules.specs.Node.{hear, campaign, tick, forget, founder, joiner, members_by, told}
+use Rattle.node_rules.specs.declared.event.PaxosEvent.TheVariants.{Heard, Campaign as Campaigns, Tick}
+use Rattle.node_rules.specs.Node.{founder, joiner}
 use Rattle.group_rules.specs.Events.{Founds, Starts, Came, Called, Done, Is, Answered, Replied, Event, Hears, Ticks, Works, Calls, Operates, Life, Setup, Stored, Cert}
 use Rattle.group_rules.specs.Life.{state, is_up, is_error, is_recovering, is_offline, executed, view, ticks}
 use Rattle.group_rules.specs.Watch.{Watch, watch, suspects, gives_up, is_expel_due, leads_by_rank}
-use Rattle.group_rules.specs.ToldSlots.{least_told}
 use Rattle.group_rules.specs.Bytes.{body_bytes}
 use Rattle.group_rules.specs.Names.{Writes}
 use Rattle.group_rules.specs.Queue.{queue, at_place, is_done}
 use Rattle.group_rules.specs.Sessions.{phase, sessions, Call, last_call, is_holding}
-use Rattle.group_rules.specs.Member.{Member, push, send, by_node, own, own_body, next_id, last_answer, for_each, fall}
+use Rattle.group_rules.specs.Member.{Member, push, send, at_node, own, own_body, next_id, last_answer, for_each, fall}
 use Rattle.group_rules.specs.Calls.{call}
 use Rattle.group_rules.specs.Welcomes.{hear_welcome}
 use Rattle.group_rules.specs.Recovery.{hear_ask, hear_give, check_ask, ask_donor, donor_failed}
@@ -28,19 +28,20 @@ abbrev pub hear_add : What → Member → Member
 hear_add (Add j) a = elim (is_up (state a.life)) [ true ↦ own (Add j) None a | false ↦ a ]
 hear_add w a = a
 
-abbrev pub hear_offer : Inc → Value → Member → Member
-hear_offer i v a = elim (v.id.number == 0) [
-  | true ↦ hear_add v.what a
-  | false ↦ by_node (hear i (Offer v)) a
-]
+abbrev pub hear_offer : Value → Member → Member
+hear_offer v a = elim (v.id.number == 0) [ true ↦ hear_add v.what a | false ↦ a ]
 
+-- what a message does beside its row at the node
 abbrev pub hear_wire : Inc → Wire → Member → Member
 hear_wire i Gone a = fall WasGone a
-hear_wire i (Greets w) a = hear_welcome i w a
-hear_wire i (Offer v) a = hear_offer i v a
+hear_wire i (Greet w) a = hear_welcome w a
+hear_wire i (Offer v) a = hear_offer v a
 hear_wire i (Asks x) a = hear_ask i x.place x.executed a
 hear_wire i (Gives g) a = hear_give i g a
-hear_wire i x a = check_ask (by_node (hear i x) a)
+hear_wire i x a = check_ask a
+
+abbrev pub hear : Message → Member → Member
+hear m a = hear_wire m.from m.wire (at_node (Heard m) a)
 
 -- ---- a worker's result
 
@@ -81,7 +82,7 @@ abbrev pub needs_leader : Watch → Inc → Member → Bool
 needs_leader w b a = not (inc_eq b a.me.inc) && (suspects a.me.inc w b || not (has_inc (seated (view a.setup a.life).seats) b))
 
 abbrev pub campaign_if_due : Watch → Member → Member
-campaign_if_due w a = elim (needs_leader w a.node.acceptor.promise.inc a) [ true ↦ by_node campaign a | false ↦ a ]
+campaign_if_due w a = elim (needs_leader w a.node.acceptor.promise.inc a) [ true ↦ at_node Campaigns a | false ↦ a ]
 
 -- expulsion and campaign are for the least ONLINE member that it doesn't suspect, if that is this one
 abbrev pub look_after : Watch → Member → Member
@@ -92,7 +93,7 @@ abbrev pub tell_at : ℕ → Member → Member
 tell_at n a = elim (((n % 60) == 0) && is_up (state a.life)) [ true ↦ own_body (Executed (executed a.life)) a | false ↦ a ]
 
 abbrev pub member_tick : Watch → Member → Member
-member_tick w a = elim (gives_up a.setup.limits.majority w) [ true ↦ fall NoMajority a | false ↦ tell_at (ticks a.life) (look_after w (by_node tick a)) ]
+member_tick w a = elim (gives_up a.setup.limits.majority w) [ true ↦ fall NoMajority a | false ↦ tell_at (ticks a.life) (look_after w (at_node Tick a)) ]
 
 -- an OFFLINE joiner offers its Add again
 abbrev pub tick_on : Member → Member
@@ -118,7 +119,7 @@ abbrev pub leave : Member → Member
 leave a = reply_sent (own (Remove a.me.inc) None) a
 
 abbrev pub operate : Operator → Member → Member
-operate Campaign a = if_online (λ b. reply_ballot (by_node campaign b)) a
+operate Campaign a = if_online (λ b. reply_ballot (at_node Campaigns b)) a
 operate Tell a = if_online (λ b. reply_sent (own_body (Executed (executed b.life))) b) a
 operate Leave a = elim (is_recovering (state a.life)) [ true ↦ leave a | false ↦ if_online leave a ]
 operate (SetPrimary i) a = if_online (reply_sent (own_body (Appoints i))) a
@@ -131,7 +132,7 @@ operate Finish a = push (Replied Finished) a
 -- ---- the action of a step
 
 abbrev pub act_alive : Event → Member → Member
-act_alive (Hears m) a = hear_wire m.from m.wire a
+act_alive (Hears m) a = hear m a
 act_alive Ticks a = tick_once a
 act_alive (Works p b) a = work p b a
 act_alive (Calls s r) a = call s r a
@@ -139,8 +140,8 @@ act_alive (Operates o) a = operate o a
 
 -- in ERROR a Prepare and an Accept are still done; the other messages, a tick and a worker's result change nothing
 abbrev pub hear_in_error : Message → Wire → Member → Member
-hear_in_error m (Prepare b s) a = by_node (hear m.from (Prepare b s)) (push (Came (Hears m)) a)
-hear_in_error m (Accept b t v) a = by_node (hear m.from (Accept b t v)) (push (Came (Hears m)) a)
+hear_in_error m (Prepare b s) a = at_node (Heard m) (push (Came (Hears m)) a)
+hear_in_error m (Accept b t v) a = at_node (Heard m) (push (Came (Hears m)) a)
 hear_in_error m x a = a
 
 abbrev pub act_in_error : Event → Member → Member
@@ -166,12 +167,8 @@ abbrev pub held_mark : Event → Member → Member
 held_mark (Calls s r) a = elim (called_now a.life s && is_holding (phase a.life s)) [ true ↦ push (Answered s Held) a | false ↦ a ]
 held_mark e a = a
 
--- the slots below the least told one are forgotten
-abbrev pub forgets : Member → Member
-forgets a = by_node (forget (least_told a.life a.me.inc (members_by a.node.turns) (told a.node.turns))) a
-
 unfoldable pub step : Event → Member → Member
-step e a = forgets (held_mark e (settle_slots (point (act e (record a { sent = [] })))))
+step e a = held_mark e (settle_slots (point (act e (record a { sent = [] }))))
 
 -- what a step has left, oldest first
 abbrev pub left_by : Member → Member → Life
@@ -183,7 +180,7 @@ abbrev pub group_of : Setup → Group
 group_of s = record { founders = map {A = Joiner} (λ j. j.inc) s.founders; horizon = s.limits.horizon }
 
 unfoldable pub found : Setup → Joiner → Member
-found s j = forgets (record { setup = s; me = j; contact = j.inc; node = founder (group_of s) j.inc; life = Is Online Founded ∷ Founds ∷ []; sent = [] })
+found s j = record { setup = s; me = j; contact = j.inc; node = founder (group_of s) j.inc; life = Is Online Founded ∷ Founds ∷ []; sent = [] }
 
 -- a joiner has what its server stored, and sends its Add to a contact
 unfoldable pub start : Setup → Joiner → Stored → Inc → Member

@@ -4,14 +4,16 @@ use Rattle.gr_ids.specs.Names.{inc_eq, id_eq}
 use Rattle.slot_values.specs.Log.{Reading, Turns, Became, KeptAt, Skips as IsSkipped, became}
 use Rattle.group_rules.specs.Names.{Inc, ValueId, Gtid, OpenParts, Online, What, Add, Remove, Value, Txn, Body, Writes, Arrives, PartOf, Effect, Plain, Conflict, OwnOnline, Removed, ConflictWith}
 use Rattle.group_rules.specs.View.{View, effect_in, void_if}
-use Rattle.group_rules.specs.Node.{Entry as SlotEntry, take, propose_all}
+use Rattle.node_rules.specs.declared.event.PaxosEvent.TheVariants.{Propose}
+use Rattle.node_rules.specs.Slots.{Entry as SlotEntry}
+use Rattle.node_rules.specs.Taking.{take}
 use Rattle.group_rules.specs.Events.{Took, Skips, Is, Entry, Life, Setup}
 use Rattle.group_rules.specs.Life.{state, is_up, is_error, is_recovering, view, has_give}
 use Rattle.group_rules.specs.Parts.{open_parts, held, is_void_part}
 use Rattle.group_rules.specs.Certifier.{certifier, verdict}
 use Rattle.group_rules.specs.Sessions.{Asking, phase, sessions}
 use Rattle.group_rules.specs.Welcomes.{greet}
-use Rattle.group_rules.specs.Member.{Member, push, by_node, last_answer, for_each, fall}
+use Rattle.group_rules.specs.Member.{Member, push, by_node, at_node, last_answer, for_each, fall}
 use Rattle.group_rules.specs.Points.{point}
 
 -- ---- the entry at a place
@@ -78,7 +80,7 @@ take_slots zero a = a
 take_slots (suc k) a = elim (next_slot a) [ [] ↦ a | x ∷ xs ↦ take_slots k (point (take_slot (reading_of a.node.turns) x (by_node take a))) ]
 
 abbrev pub propose : Member → Member
-propose a = elim (is_error (state a.life)) [ true ↦ a | false ↦ by_node propose_all a ]
+propose a = elim (is_error (state a.life)) [ true ↦ a | false ↦ at_node Propose a ]
 
 -- the slots are taken and a leader proposes again, until neither does anything
 abbrev pub rounds : ℕ → Member → Member

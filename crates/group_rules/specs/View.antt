@@ -3,14 +3,11 @@
 use Rattle.std.specs.Prelude.{ℕ, ◌+◌, Bool, true, false, ◌&&◌, ◌||◌, not, Option, Some, None, List, [], ◌∷◌, nat_lt, ◌==◌, if◌then◌else◌, filter, map}
 use Rattle.std.specs.List.{list_any}
 use Rattle.gr_ids.specs.Names.{inc_eq, inc_lt, is_inc, bytes_eq, bytes_lt}
+pub use Rattle.node_rules.specs.Welcoming.{Seat}
+use Rattle.node_rules.specs.Welcoming.{Shown}
 use Rattle.group_rules.specs.Names.{Inc, MemberState, Online, Recovering, Mode, Single, Multi, Joiner, What, Add, Remove, ToMulti, ToSingle, Body, Arrives, Switches, Appoints, Effect, Plain, Void, Unread}
 
--- a member with its state: ONLINE or RECOVERING
-pub record Seat : Type 0 where
-  pub joiner : Joiner
-  pub state : MemberState
-
--- The number is 1 and the Adds and Removes that took effect. `elected` is the place at which the primary became primary, 0 where there is none.
+-- A member has a seat, with its state: ONLINE or RECOVERING. The number is 1 and the Adds and Removes that took effect. `elected` is the place at which the primary became primary, 0 where there is none.
 -- The seats stand by ascending incarnation.
 pub record View : Type 0 where
   pub number : ℕ
@@ -48,6 +45,19 @@ is_seated v i = list_any (λ s. inc_eq s.joiner.inc i) v.seats
 
 abbrev pub is_online : View → Inc → Bool
 is_online v i = list_any (λ s. inc_eq s.joiner.inc i && is_online_state s.state) v.seats
+
+-- ---- what a Welcome tells of the view
+
+-- (it is asked for members alone)
+abbrev pub no_seat : Inc → Seat
+no_seat i = record { joiner = record { inc = i; uuid = []; version = []; weight = 0 }; state = Recovering }
+
+abbrev pub seat_in : List Seat → Inc → Seat
+seat_in [] i = no_seat i
+seat_in (s ∷ ss) i = elim (inc_eq s.joiner.inc i) [ true ↦ s | false ↦ seat_in ss i ]
+
+abbrev pub shown : View → Shown
+shown v = record { number = v.number; mode = v.mode; primary = v.primary; elected = v.elected; seat = seat_in v.seats }
 
 -- ---- election
 
