@@ -1,7 +1,14 @@
 -- Worked rows, computed: the text of every line of each script.
 use Rattle.std.proofs.Common.{◌≡◌, ℕ, true, false, Option, Some, None, List, [], ◌∷◌, refl}
 use Rattle.std.specs.Prelude.{replicate, codes, ◌+◌}
-use Rattle.group_rules.specs.Names.{Inc, Item, Change, ChangeKind, Inserts, Updates, Deletes, Mode, Single, Multi, Eventual, BeforeOnPrimaryFailover, Before, After, BeforeAndAfter, Request, Begin, Get, Insert, Update, Delete, Commit, Rollback, Operator, Campaign, Tell, Leave, SetPrimary, SetSingle, SetMulti, AskDonor, DonorFailed}
+use Rattle.gr_ids.specs.declared.names.Inc.{Inc}
+use Rattle.gr_ids.specs.declared.levels.Level.TheVariants.{Eventual, BeforeOnPrimaryFailover, Before, After, BeforeAndAfter}
+use Rattle.gr_ids.specs.declared.levels.Mode.TheVariants.{Single, Multi}
+use Rattle.key_items.specs.declared.item.Item.{Item}
+use Rattle.key_items.specs.declared.change.ChangeKind.{ChangeKind}
+use Rattle.key_items.specs.declared.change.ChangeKind.TheVariants.{Insert as Inserts, Update as Updates, Delete as Deletes}
+use Rattle.group_rules.specs.declared.requests.Request.TheVariants.{Begin, Get, Insert, Update, Delete, Commit, Rollback}
+use Rattle.group_rules.specs.declared.requests.Operator.TheVariants.{Campaign, Tell, Leave, SetPrimary, Single as SetSingle, Multi as SetMulti, AskDonor, DonorFailed}
 use Rattle.group_rules.specs.declared.steps.Step.{Step}
 use Rattle.group_rules.specs.declared.steps.Step.TheVariants.{Server, Block, Found, Session, Once, Operate, Deliver, Lose, Settle, Work, Drain, Tick, Start, Stop, Offline, ShowMembers, ShowSlots, ShowConfig, ShowGtids, ShowRows, ShowQueue, ShowCertifier, ShowKept, ShowWire}
 use Rattle.group_rules.specs.World.{default_uuid, event}

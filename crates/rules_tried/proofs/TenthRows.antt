@@ -1,7 +1,14 @@
 -- Worked rows, computed: the text of every line of each script.
 use Rattle.std.proofs.Common.{◌≡◌, ℕ, true, false, Option, Some, None, List, [], ◌∷◌, refl}
 use Rattle.std.specs.Prelude.{replicate, codes, ◌+◌}
-use Rattle.group_rules.specs.Names.{Inc, Item, Change, ChangeKind, Inserts, Updates, Deletes, Mode, Single, Multi, Eventual, BeforeOnPrimaryFailover, Before, After, BeforeAndAfter, Request, Begin, Get, Insert, Update, Delete, Commit, Rollback, Operator, Campaign, Tell, Leave, SetPrimary, SetSingle, SetMulti, AskDonor, DonorFailed}
+use Rattle.gr_ids.specs.declared.names.Inc.{Inc}
+use Rattle.gr_ids.specs.declared.levels.Level.TheVariants.{Eventual, BeforeOnPrimaryFailover, Before, After, BeforeAndAfter}
+use Rattle.gr_ids.specs.declared.levels.Mode.TheVariants.{Single, Multi}
+use Rattle.key_items.specs.declared.item.Item.{Item}
+use Rattle.key_items.specs.declared.change.ChangeKind.{ChangeKind}
+use Rattle.key_items.specs.declared.change.ChangeKind.TheVariants.{Insert as Inserts, Update as Updates, Delete as Deletes}
+use Rattle.group_rules.specs.declared.requests.Request.TheVariants.{Begin, Get, Insert, Update, Delete, Commit, Rollback}
+use Rattle.group_rules.specs.declared.requests.Operator.TheVariants.{Campaign, Tell, Leave, SetPrimary, Single as SetSingle, Multi as SetMulti, AskDonor, DonorFailed}
 use Rattle.group_rules.specs.declared.steps.Step.{Step}
 use Rattle.group_rules.specs.declared.steps.Step.TheVariants.{Server, Block, Found, Session, Once, Operate, Deliver, Lose, Settle, Work, Drain, Tick, Start, Stop, Offline, ShowMembers, ShowSlots, ShowConfig, ShowGtids, ShowRows, ShowQueue, ShowCertifier, ShowKept, ShowWire}
 use Rattle.group_rules.specs.World.{default_uuid, event}
@@ -34,36 +41,36 @@ group = replicate 16 0xaa
 abbrev once : ℕ → ℕ → Item → ChangeKind → Step
 once n s i k = Once s (1_000_000_000 + n) (record { item = i; what = k })
 
--- two-parts
-abbrev big : List ℕ
-big = replicate 40000 120
-
-abbrev two_parts : List Step
-two_parts =
-    Found group Multi 10 5 0 (1 ∷ 2 ∷ 3 ∷ []) ∷
-    Session 1 7 (Begin Eventual 9) ∷
-    Session 1 7 (Insert (item (codes "t") (codes "a")) big) ∷
-    Session 1 7 (Insert (item (codes "t") (codes "b")) big) ∷
-    Session 1 7 Commit ∷
+-- tenth-member-void
+abbrev tenth_member_void : List Step
+tenth_member_void =
+    Found group Multi 10 5 0 (1 ∷ 2 ∷ 3 ∷ 4 ∷ 5 ∷ 6 ∷ 7 ∷ 8 ∷ 9 ∷ []) ∷
+    Server 10 (default_uuid 10) (8 ∷ 0 ∷ 36 ∷ []) 50 ∷
+    Start 10 1 ∷
     Settle [] ∷
     []
 
-two_parts_text : full two_parts ≡
+tenth_member_void_text : full tenth_member_void ≡
     codes "1 1.1 state ONLINE" ∷
     codes "1 2.1 state ONLINE" ∷
     codes "1 3.1 state ONLINE" ∷
-    codes "2 1.1 answer 7 begun -" ∷
-    codes "3 1.1 answer 7 changed" ∷
-    codes "4 1.1 answer 7 changed" ∷
-    codes "5 1.1 answer 7 sent 1.1#2" ∷
-    codes "6 1.1 took 1 1.1#1 part 1 of 2" ∷
-    codes "6 1.1 took 2 1.1#2 txn positive aaaaaaaa-aaaa-aaaa-aaaa-aaaaaaaaaaaa:1" ∷
-    codes "6 1.1 committed aaaaaaaa-aaaa-aaaa-aaaa-aaaaaaaaaaaa:1" ∷
-    codes "6 1.1 answer 7 committed aaaaaaaa-aaaa-aaaa-aaaa-aaaaaaaaaaaa:1" ∷
-    codes "6 2.1 took 1 1.1#1 part 1 of 2" ∷
-    codes "6 3.1 took 1 1.1#1 part 1 of 2" ∷
-    codes "6 2.1 took 2 1.1#2 txn positive aaaaaaaa-aaaa-aaaa-aaaa-aaaaaaaaaaaa:1" ∷
-    codes "6 3.1 took 2 1.1#2 txn positive aaaaaaaa-aaaa-aaaa-aaaa-aaaaaaaaaaaa:1" ∷
+    codes "1 4.1 state ONLINE" ∷
+    codes "1 5.1 state ONLINE" ∷
+    codes "1 6.1 state ONLINE" ∷
+    codes "1 7.1 state ONLINE" ∷
+    codes "1 8.1 state ONLINE" ∷
+    codes "1 9.1 state ONLINE" ∷
+    codes "2 ok" ∷
+    codes "3 10.1 state OFFLINE" ∷
+    codes "4 1.1 took 1 1.1#1 add 10.1 void" ∷
+    codes "4 2.1 took 1 1.1#1 add 10.1 void" ∷
+    codes "4 3.1 took 1 1.1#1 add 10.1 void" ∷
+    codes "4 4.1 took 1 1.1#1 add 10.1 void" ∷
+    codes "4 5.1 took 1 1.1#1 add 10.1 void" ∷
+    codes "4 6.1 took 1 1.1#1 add 10.1 void" ∷
+    codes "4 7.1 took 1 1.1#1 add 10.1 void" ∷
+    codes "4 8.1 took 1 1.1#1 add 10.1 void" ∷
+    codes "4 9.1 took 1 1.1#1 add 10.1 void" ∷
     []
 unfolding by_index full run apply event settle drain step found start call point settle_slots read turn node_step hear hear_prepare hear_accept hear_learn hear_promise hear_accepted propose_one own_value hear_offer campaign hear_alive tick take hear_welcome forget
-two_parts_text = refl
+tenth_member_void_text = refl
