@@ -1,5 +1,5 @@
 -- A member's history as the list of its events, each with its marks in order and its messages; and which histories are lawful.
-use Rattle.std.specs.Prelude.{◌≡◌, Bool, true, false, List, [], ◌∷◌, if◌then◌else◌}
+use Rattle.std.specs.Prelude.{◌≡◌, Bool, true, false, List, [], ◌∷◌, map}
 use Rattle.gr_ids.specs.Names.{inc_eq, inc_lt, bytes_eq, bytes_lt}
 use Rattle.group_rules.specs.Names.{Message, Mark}
 use Rattle.group_rules.specs.Bytes.{message_bytes}
@@ -57,3 +57,6 @@ IsLawful a (t ∷ h) = (t ≡ turn_of (after a h) t.event) × IsLawful a h
 abbrev pub history_of : Member → List Event → History
 history_of a [] = []
 history_of a (e ∷ es) = let h = history_of a es in turn_of (after a h) e ∷ h
+
+abbrev pub events : History → List Event
+events h = map {A = Turn} (λ t. t.event) h
