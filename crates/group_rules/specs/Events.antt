@@ -49,7 +49,7 @@ pub data Did : Type 0 where
   Made : (value : Value) (holds : Option Body) → Did
   -- marks
   Took : (entry : Entry) → Did
-  Skips : (slot : ℕ) (id : ValueId) → Did
+  Skips : (slot : ℕ) (value : Value) → Did
   Done : (place : ℕ) → Did
   Committed : (gtid : Gtid) → Did
   Is : (state : MemberState) (cause : Cause) → Did
@@ -81,7 +81,7 @@ pub record Setup : Type 0 where
 
 abbrev pub mark_of : Did → Option Mark
 mark_of (Took e) = Some (TookMark e.place e.value e.effect)
-mark_of (Skips t i) = Some (SkippedMark t i)
+mark_of (Skips t v) = Some (SkippedMark t v.id)
 mark_of (Done p) = Some (DoneMark p)
 mark_of (Committed g) = Some (CommittedMark g)
 mark_of (Is s c) = Some (StateMark s c)

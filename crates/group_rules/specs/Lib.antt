@@ -26,3 +26,5 @@ pub mod Looks
 pub mod World
 pub mod Script
 pub mod Texts
+pub mod OneList
+pub mod Legal

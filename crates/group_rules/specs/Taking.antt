@@ -51,7 +51,7 @@ causes e Plain a = on_plain e.value.id.origin e.value.what e.holds a
 causes e x a = a
 
 abbrev pub take_kept : ℕ → Value → Became → Member → Member
-take_kept t v IsSkipped a = push (Skips t v.id) a
+take_kept t v IsSkipped a = push (Skips t v) a
 take_kept t v (KeptAt p has_effect) a = let e = entry_of a.setup a.life t p has_effect v in causes e e.effect (push (Took e) a)
 
 -- ---- slots

@@ -17,8 +17,7 @@ use Rattle.group_rules.specs.declared.said.Look.TheVariants.{Members, Slots, Con
 use Rattle.group_rules.specs.declared.said.Said.{Said}
 use Rattle.group_rules.specs.declared.said.Said.TheVariants.{Marked, Idle, Offline as WroteOffline, Looked}
 use Rattle.group_rules.specs.declared.steps.Step.{Step}
-use Rattle.group_rules.specs.World.{World, new_world, Refusal, Declared, NoServer, AlreadyRunning, NoMessage, MessageLost, NoMember, Full}
-use Rattle.group_rules.specs.Script.{apply}
+use Rattle.group_rules.specs.Script.{Play, new_play, apply, Refusal, Declared, NoServer, AlreadyRunning, NoMessage, MessageLost, NoMember, Full}
 
 abbrev pub Text : Type 0
 Text = List ℕ
@@ -263,20 +262,20 @@ abbrev pub refused_or_said : Option Refusal → List Said → List Text
 refused_or_said (Some r) xs = (codes "refused " ++ refusal_text r) ∷ []
 refused_or_said None xs = texts_or_ok (flat_map said_texts xs)
 
-abbrev pub closed_or_said : Option Full → World → List Text
-closed_or_said (Some f) w = limit_text f ∷ []
-closed_or_said None w = refused_or_said w.refused w.said
+abbrev pub closed_or_said : Option Full → Play → List Text
+closed_or_said (Some f) y = limit_text f ∷ []
+closed_or_said None y = refused_or_said y.refused y.said
 
--- the text of the line with this number, after whose step the world is w: a list of its output lines, without their ends
-abbrev pub line_texts : ℕ → World → List Text
-line_texts n w = map (λ x. decimal n ++ codes " " ++ x) (closed_or_said w.closed w)
+-- the text of the line with this number, after whose step the play is y: a list of its output lines, without their ends
+abbrev pub line_texts : ℕ → Play → List Text
+line_texts n y = map (λ x. decimal n ++ codes " " ++ x) (closed_or_said y.closed y)
 
 -- ---- a whole script, whose lines are numbered from n
 
 -- a line that passes a limit is the last one
-abbrev pub texts_from : ℕ → List Step → World → List Text
-texts_from n [] w = []
-texts_from n (x ∷ xs) w = let v : World = apply x w in line_texts n v ++ elim (v.closed) [ None ↦ texts_from (suc n) xs v | Some f ↦ [] ]
+abbrev pub texts_from : ℕ → List Step → Play → List Text
+texts_from n [] y = []
+texts_from n (x ∷ xs) y = let z : Play = apply x y in line_texts n z ++ elim (z.closed) [ None ↦ texts_from (suc n) xs z | Some f ↦ [] ]
 
 unfoldable pub full : List Step → List Text
-full xs = texts_from 1 xs new_world
+full xs = texts_from 1 xs new_play

@@ -1,20 +1,19 @@
--- The world: servers and their incarnations, and the wire, which holds every message ever sent.
-use Rattle.std.specs.Prelude.{ℕ, zero, suc, ◌+◌, ◌*◌, ◌/◌, ◌%◌, ◌^◌, Bool, true, false, ◌&&◌, ◌||◌, not, Option, Some, None, List, [], ◌∷◌, ◌++◌, nat_lt, ◌==◌, length, map, filter, replicate}
+-- The world: servers and their incarnations, the messages ever sent, and all that ever happened; and the moves that a run consists of.
+-- A message may be taken any number of times and in any order, or never.
+use Rattle.std.specs.Prelude.{ℕ, zero, suc, ◌+◌, ◌-◌, ◌*◌, ◌/◌, ◌%◌, Bool, true, false, ◌&&◌, ◌||◌, not, Option, Some, None, List, [], ◌∷◌, ◌++◌, nat_lt, ◌==◌, length, map, filter, replicate, take, slice_get, is_some}
 use Rattle.std.specs.List.{list_any, find}
 use Rattle.gr_ids.specs.Names.{inc_eq, bytes_eq, gtid_eq}
-use Rattle.group_rules.specs.Names.{Inc, Joiner, Message, Mark}
-use Rattle.group_rules.specs.Bytes.{message_bytes}
-use Rattle.group_rules.specs.declared.said.Said.{Said}
-use Rattle.group_rules.specs.declared.said.Said.TheVariants.{Marked}
-use Rattle.group_rules.specs.Events.{Committed, Event, Life, Setup, Stored, Cert}
+use Rattle.gtid_sets.specs.Sets.{with_gtid}
+use Rattle.group_rules.specs.Names.{Inc, Gtid, Item, Joiner, Message}
+use Rattle.group_rules.specs.Events.{Did, Committed, Event, Hears, Life, Setup, Stored, Cert, OfflineWrite}
 use Rattle.group_rules.specs.Life.{executed, certs, stored}
 use Rattle.group_rules.specs.Member.{Member}
-use Rattle.group_rules.specs.Steps.{step}
-use Rattle.group_rules.specs.Histories.{arranged, marks_by}
+use Rattle.group_rules.specs.Steps.{step, found, start}
+use Rattle.group_rules.specs.Histories.{arranged}
 
--- ---- servers
+-- ---- the world
 
--- how often it was started, what it stored when its last incarnation stopped, and the incarnation that runs
+-- a server: how often it was started, what it stored when its last incarnation stopped, and the incarnation that runs
 pub record Server : Type 0 where
   pub number : ℕ
   pub uuid : List ℕ
@@ -24,43 +23,34 @@ pub record Server : Type 0 where
   pub stored : Stored
   pub running : Option Member
 
--- a message that was sent, with the number of its bytes
-pub record Letter : Type 0 where
-  pub message : Message
-  pub size : ℕ
-  pub delivered : Bool
-  pub lost : Bool
+-- what happened somewhere in the world
+pub data Happening : Type 0 where
+  Does : (who : Inc) (did : Did) → Happening
+  Writes : (server : ℕ) (write : OfflineWrite) → Happening
+  Halts : (server : ℕ) → Happening
 
--- why a step isn't done
-pub data Refusal : Type 0 where
-  Declared : Refusal
-  NoServer : Refusal
-  AlreadyRunning : Refusal
-  NoMessage : (k : ℕ) → Refusal
-  MessageLost : (k : ℕ) → Refusal
-  NoMember : Refusal
+-- newest first
+abbrev pub Past : Type 0
+Past = List Happening
 
--- the numbers to which a step would have brought the wire above its limits
-pub record Full : Type 0 where
-  pub messages : ℕ
-  pub bytes : ℕ
-
--- The servers stand by ascending number; the k-th letter is the k-th message sent. `said` is what the present step says, or `refused` why it isn't
--- done. A step that passes a limit of the wire closes the world.
+-- The servers stand by ascending number, the messages in the order sent. `past` is all that happened, and `left` what the last move left of it.
 pub record World : Type 0 where
   pub setup : Option Setup
-  pub block : ℕ
   pub servers : List Server
-  pub wire : List Letter
-  pub said : List Said
-  pub refused : Option Refusal
-  pub closed : Option Full
+  pub sent : List Message
+  pub left : Past
+  pub past : Past
 
 abbrev pub new_world : World
-new_world = record { setup = None; block = 1; servers = []; wire = []; said = []; refused = None; closed = None }
+new_world = record { setup = None; servers = []; sent = []; left = []; past = [] }
 
-abbrev pub say : Said → World → World
-say x w = record w { said = w.said ++ x ∷ [] }
+-- what happened to one incarnation
+abbrev pub life_in : Past → Inc → Life
+life_in [] i = []
+life_in (Does j d ∷ p) i = elim (inc_eq j i) [ true ↦ d ∷ life_in p i | false ↦ life_in p i ]
+life_in (x ∷ p) i = life_in p i
+
+-- ---- readers
 
 abbrev pub nothing_stored : Stored
 nothing_stored = record { executed = []; committed = []; writes = [] }
@@ -86,13 +76,21 @@ running_of (Some s) = s.running
 abbrev pub member_at : World → ℕ → Option Member
 member_at w n = running_of (server_at w n)
 
-abbrev pub put_member : World → ℕ → Member → World
-put_member w n a = record w { servers = map {A = Server} (λ s. elim (s.number == n) [ true ↦ record s { running = Some a } | false ↦ s ]) w.servers }
+abbrev pub is_running : World → ℕ → Bool
+is_running w n = is_some (member_at w n)
+
+abbrev pub is_member : Option Member → Inc → Bool
+is_member None i = false
+is_member (Some a) i = inc_eq a.me.inc i
+
+-- the incarnation runs
+abbrev pub runs : World → Inc → Bool
+runs w i = is_member (member_at w i.server) i
 
 abbrev pub joiner_of : Server → ℕ → Joiner
 joiner_of s k = record { inc = record { server = s.number; start = k }; uuid = s.uuid; version = s.version; weight = s.weight }
 
--- ---- default UUIDs
+-- ---- UUIDs
 
 -- 00000000-0000-0000-0000-0000000000nn, nn being the number in two decimal digits
 abbrev pub default_uuid : ℕ → List ℕ
@@ -110,38 +108,13 @@ abbrev pub is_group : Option Setup → List ℕ → Bool
 is_group None u = false
 is_group (Some s) u = bytes_eq s.limits.group u
 
--- ---- the wire
+-- the number or the UUID is declared, or the UUID is the group's or the default of another number
+abbrev pub is_taken : ℕ → List ℕ → World → Bool
+is_taken n u w = is_declared w n || (has_uuid w u || (is_group w.setup u || is_default_of_other u n 32))
 
-abbrev pub letters : List Message → List Letter
-letters ms = map (λ m. record { message = m; size = length (message_bytes m); delivered = false; lost = false }) ms
-
-abbrev pub total : List Letter → ℕ
-total [] = 0
-total (x ∷ xs) = x.size + total xs
-
--- at most 2^20 messages and 2^30 bytes
-abbrev pub is_full : List Letter → Bool
-is_full xs = nat_lt (2 ^ 20) (length xs) || nat_lt (2 ^ 30) (total xs)
-
--- the world v with this wire; where it passes a limit, the world w as it was, closed
-abbrev pub sends : List Letter → World → World → World
-sends xs v w = elim (is_full xs) [ false ↦ record v { wire = xs } | true ↦ record w { closed = Some (record { messages = length xs; bytes = total xs }) } ]
-
--- ---- an event at a member: its marks are said, its messages go on the wire
-
-abbrev pub marked : Inc → List Mark → List Said
-marked i ms = map (λ m. Marked i m) ms
-
-abbrev pub stepped : ℕ → Member → Member → World → World
-stepped n a b w = let v : World = put_member w n b in sends (w.wire ++ letters (arranged b.sent)) (record v { said = v.said ++ marked a.me.inc (marks_by a b) }) w
-
-abbrev pub event_by : ℕ → Event → Option Member → World → World
-event_by n e None w = w
-event_by n e (Some a) w = stepped n a (step e a) w
-
--- nothing happens in a world that is closed
-unfoldable pub event : ℕ → Event → World → World
-event n e w = elim (w.closed) [ Some x ↦ w | None ↦ event_by n e (member_at w n) w ]
+-- the UUID is declared or a default
+abbrev pub is_group_taken : List ℕ → World → Bool
+is_group_taken g w = has_uuid w g || is_default_of_other g 0 32
 
 -- ---- what a server keeps
 
@@ -155,3 +128,105 @@ committed_of (_ ∷ l) cs = committed_of l cs
 abbrev pub stored_by : Stored → Option Member → Stored
 stored_by x None = x
 stored_by x (Some a) = record { executed = executed a.life; committed = (stored a.life).committed ++ committed_of a.life (certs a.life); writes = x.writes }
+
+-- ---- moves
+
+-- this happened, newest first
+abbrev pub happens : Past → World → World
+happens p w = record w { left = p; past = p ++ w.past }
+
+abbrev pub nothing_happens : World → World
+nothing_happens w = record w { left = [] }
+
+abbrev pub dids : Inc → Life → Past
+dids i l = map (λ d. Does i d) l
+
+abbrev pub declare : ℕ → List ℕ → List ℕ → ℕ → World → World
+declare n u v g w = put_server (record { number = n; uuid = u; version = v; weight = g; starts = 0; stored = nothing_stored; running = None }) w
+
+-- a founder is the first start of its server
+abbrev pub found_at : Setup → Joiner → World → World
+found_at t j w =
+    let a : Member = found t j in
+    put_server (record { number = j.inc.server; uuid = j.uuid; version = j.version; weight = j.weight; starts = 1; stored = nothing_stored; running = Some a }) (record w { left = dids j.inc a.life ++ w.left; past = dids j.inc a.life ++ w.past })
+
+abbrev pub found_all : Setup → List Joiner → World → World
+found_all t [] w = w
+found_all t (j ∷ js) w = found_all t js (found_at t j w)
+
+abbrev pub started : Setup → Server → Member → World → World
+started t s via w =
+    let j : Joiner = joiner_of s (suc s.starts) in
+    let a : Member = start t j s.stored via.me.inc in
+    happens (dids j.inc a.life) (put_server (record s { starts = suc s.starts; running = Some a }) (record w { sent = w.sent ++ a.sent }))
+
+-- the server's next incarnation starts, if none runs, and sends its Add to the one that runs at another server
+abbrev pub start_by : Option Setup → Option Server → Option Member → World → World
+start_by (Some t) (Some s) (Some via) w = elim (is_some s.running) [ true ↦ nothing_happens w | false ↦ started t s via w ]
+start_by t s via w = nothing_happens w
+
+abbrev pub stop : Option Server → World → World
+stop None w = nothing_happens w
+stop (Some s) w = happens (Halts s.number ∷ []) (put_server (record s { stored = stored_by s.stored s.running; running = None }) w)
+
+-- the row is written under the server's own UUID and next number
+abbrev pub written : Item → List ℕ → Server → World → World
+written i r s w =
+    let g : Gtid = record { source = s.uuid; number = suc (length s.stored.writes) } in
+    let x : OfflineWrite = record { gtid = g; item = i; row = r } in
+    let y : Stored = record { executed = with_gtid s.stored.executed g; committed = s.stored.committed; writes = s.stored.writes ++ x ∷ [] } in
+    happens (Writes s.number x ∷ []) (put_server (record s { stored = y }) w)
+
+abbrev pub write_by : Item → List ℕ → Option Server → World → World
+write_by i r None w = nothing_happens w
+write_by i r (Some s) w = elim (is_some s.running) [ true ↦ nothing_happens w | false ↦ written i r s w ]
+
+abbrev pub put_member : Server → Member → World → World
+put_member s b w = put_server (record s { running = Some b }) w
+
+-- an event at the incarnation that runs at the server: what it leaves happens, and its messages are sent
+abbrev pub stepped : Server → Member → Member → World → World
+stepped s a b w = happens (dids a.me.inc (take (length b.life - length a.life) b.life)) (put_member s b (record w { sent = w.sent ++ arranged b.sent }))
+
+abbrev pub event_by : Event → Server → Option Member → World → World
+event_by e s None w = nothing_happens w
+event_by e s (Some a) w = stepped s a (step e a) w
+
+abbrev pub event_at : Event → Option Server → World → World
+event_at e None w = nothing_happens w
+event_at e (Some s) w = event_by e s s.running w
+
+abbrev pub take_message : Option Message → World → World
+take_message None w = nothing_happens w
+take_message (Some m) w = elim (runs w m.to) [ true ↦ event_at (Hears m) (server_at w m.to.server) w | false ↦ nothing_happens w ]
+
+-- What may happen next. An event at a server is one of its incarnation that runs.
+pub data Move : Type 0 where
+  Declares : (number : ℕ) (uuid version : List ℕ) (weight : ℕ) → Move
+  Founds : (setup : Setup) → Move
+  Starts : (server via : ℕ) → Move
+  Stops : (server : ℕ) → Move
+  WritesRow : (server : ℕ) (item : Item) (row : List ℕ) → Move
+  -- the k-th message sent, from 1, is taken by its addressee
+  Takes : (k : ℕ) → Move
+  Happens : (server : ℕ) (event : Event) → Move
+
+abbrev pub kth : {A : Type 0} → List A → ℕ → Option A
+kth xs zero = None
+kth xs (suc k) = slice_get xs k
+
+-- a move that may not be made leaves the world as it is
+unfoldable pub move : Move → World → World
+move (Declares n u v g) w = elim (is_taken n u w) [ true ↦ nothing_happens w | false ↦ nothing_happens (declare n u v g w) ]
+move (Founds t) w = elim (is_some w.setup || is_group_taken t.limits.group w) [ true ↦ nothing_happens w | false ↦ found_all t t.founders (nothing_happens (record w { setup = Some t })) ]
+move (Starts n via) w = start_by w.setup (server_at w n) (member_at w via) w
+move (Stops n) w = stop (server_at w n) w
+move (WritesRow n i r) w = write_by i r (server_at w n) w
+move (Takes k) w = take_message (kth w.sent k) w
+move (Happens n (Hears m)) w = nothing_happens w
+move (Happens n e) w = event_at e (server_at w n) w
+
+-- the world after these moves, newest first
+abbrev pub world_after : List Move → World
+world_after [] = new_world
+world_after (m ∷ ms) = move m (world_after ms)

@@ -11,8 +11,8 @@ use Rattle.group_rules.specs.declared.requests.Request.TheVariants.{Begin, Get, 
 use Rattle.group_rules.specs.declared.requests.Operator.TheVariants.{Campaign, Tell, Leave, SetPrimary, Single as SetSingle, Multi as SetMulti, AskDonor, DonorFailed}
 use Rattle.group_rules.specs.declared.steps.Step.{Step}
 use Rattle.group_rules.specs.declared.steps.Step.TheVariants.{Server, Block, Found, Session, Once, Operate, Deliver, Lose, Settle, Work, Drain, Tick, Start, Stop, Offline, ShowMembers, ShowSlots, ShowConfig, ShowGtids, ShowRows, ShowQueue, ShowCertifier, ShowKept, ShowWire}
-use Rattle.group_rules.specs.World.{default_uuid, event}
-use Rattle.group_rules.specs.Script.{apply, settle, drain, run}
+use Rattle.group_rules.specs.World.{default_uuid, move}
+use Rattle.group_rules.specs.Script.{apply, plays, settle, drain, run}
 use Rattle.group_rules.specs.Texts.{full}
 use Rattle.group_rules.specs.Calls.{call}
 use Rattle.group_rules.specs.Points.{point}
@@ -89,7 +89,7 @@ forgetting_items_text : full forgetting_items ≡
     codes "10 3.1 took 4 3.1#1 executed aaaaaaaa-aaaa-aaaa-aaaa-aaaaaaaaaaaa:1" ∷
     codes "11 1.1 items 0" ∷
     []
-unfolding by_index full run apply event settle drain step found start call point settle_slots read turn node_step hear hear_prepare hear_accept hear_learn hear_promise hear_accepted propose_one own_value hear_offer campaign hear_alive tick take hear_welcome forget
+unfolding by_index full run apply plays move settle drain step found start call point settle_slots read turn node_step hear hear_prepare hear_accept hear_learn hear_promise hear_accepted propose_one own_value hear_offer campaign hear_alive tick take hear_welcome forget
 forgetting_items_text = refl
 
 -- blocks-of-five
@@ -147,7 +147,7 @@ blocks_of_five_text : full blocks_of_five ≡
     codes "6 3.1 committed aaaaaaaa-aaaa-aaaa-aaaa-aaaaaaaaaaaa:6" ∷
     codes "7 3.1 gtids aaaaaaaa-aaaa-aaaa-aaaa-aaaaaaaaaaaa:1-2:6" ∷
     []
-unfolding by_index full run apply event settle drain step found start call point settle_slots read turn node_step hear hear_prepare hear_accept hear_learn hear_promise hear_accepted propose_one own_value hear_offer campaign hear_alive tick take hear_welcome forget
+unfolding by_index full run apply plays move settle drain step found start call point settle_slots read turn node_step hear hear_prepare hear_accept hear_learn hear_promise hear_accepted propose_one own_value hear_offer campaign hear_alive tick take hear_welcome forget
 blocks_of_five_text = refl
 
 -- conflict-named-by-place
@@ -206,5 +206,5 @@ conflict_named_by_place_text : full conflict_named_by_place ≡
     codes "13 3.1 took 4 3.1#1 txn conflict aaaaaaaa-aaaa-aaaa-aaaa-aaaaaaaaaaaa:2" ∷
     codes "13 3.1 answer 9 conflict aaaaaaaa-aaaa-aaaa-aaaa-aaaaaaaaaaaa:2" ∷
     []
-unfolding by_index full run apply event settle drain step found start call point settle_slots read turn node_step hear hear_prepare hear_accept hear_learn hear_promise hear_accepted propose_one own_value hear_offer campaign hear_alive tick take hear_welcome forget
+unfolding by_index full run apply plays move settle drain step found start call point settle_slots read turn node_step hear hear_prepare hear_accept hear_learn hear_promise hear_accepted propose_one own_value hear_offer campaign hear_alive tick take hear_welcome forget
 conflict_named_by_place_text = refl

@@ -11,8 +11,8 @@ use Rattle.group_rules.specs.declared.requests.Request.TheVariants.{Begin, Get, 
 use Rattle.group_rules.specs.declared.requests.Operator.TheVariants.{Campaign, Tell, Leave, SetPrimary, Single as SetSingle, Multi as SetMulti, AskDonor, DonorFailed}
 use Rattle.group_rules.specs.declared.steps.Step.{Step}
 use Rattle.group_rules.specs.declared.steps.Step.TheVariants.{Server, Block, Found, Session, Once, Operate, Deliver, Lose, Settle, Work, Drain, Tick, Start, Stop, Offline, ShowMembers, ShowSlots, ShowConfig, ShowGtids, ShowRows, ShowQueue, ShowCertifier, ShowKept, ShowWire}
-use Rattle.group_rules.specs.World.{default_uuid, event}
-use Rattle.group_rules.specs.Script.{apply, settle, drain, run}
+use Rattle.group_rules.specs.World.{default_uuid, move}
+use Rattle.group_rules.specs.Script.{apply, plays, settle, drain, run}
 use Rattle.group_rules.specs.Texts.{full}
 use Rattle.group_rules.specs.Calls.{call}
 use Rattle.group_rules.specs.Points.{point}
@@ -88,7 +88,7 @@ failover_text : full failover ≡
     codes "9 2.1 committed aaaaaaaa-aaaa-aaaa-aaaa-aaaaaaaaaaaa:2" ∷
     codes "9 2.1 answer 7 begun aaaaaaaa-aaaa-aaaa-aaaa-aaaaaaaaaaaa:1-2" ∷
     []
-unfolding by_index full run apply event settle drain step found start call point settle_slots read turn node_step hear hear_prepare hear_accept hear_learn hear_promise hear_accepted propose_one own_value hear_offer campaign hear_alive tick take hear_welcome forget
+unfolding by_index full run apply plays move settle drain step found start call point settle_slots read turn node_step hear hear_prepare hear_accept hear_learn hear_promise hear_accepted propose_one own_value hear_offer campaign hear_alive tick take hear_welcome forget
 failover_text = refl
 
 -- failover-hold-timeout
@@ -133,7 +133,7 @@ failover_hold_timeout_text : full failover_hold_timeout ≡
     codes "7 ok" ∷
     codes "8 2.1 answer 7 hold timeout 2" ∷
     []
-unfolding by_index full run apply event settle drain step found start call point settle_slots read turn node_step hear hear_prepare hear_accept hear_learn hear_promise hear_accepted propose_one own_value hear_offer campaign hear_alive tick take hear_welcome forget
+unfolding by_index full run apply plays move settle drain step found start call point settle_slots read turn node_step hear hear_prepare hear_accept hear_learn hear_promise hear_accepted propose_one own_value hear_offer campaign hear_alive tick take hear_welcome forget
 failover_hold_timeout_text = refl
 
 -- primary-moved
@@ -166,7 +166,7 @@ primary_moved_text : full primary_moved ≡
     codes "6 3.1 member 3.1 ONLINE" ∷
     codes "6 3.1 view 1 single" ∷
     []
-unfolding by_index full run apply event settle drain step found start call point settle_slots read turn node_step hear hear_prepare hear_accept hear_learn hear_promise hear_accepted propose_one own_value hear_offer campaign hear_alive tick take hear_welcome forget
+unfolding by_index full run apply plays move settle drain step found start call point settle_slots read turn node_step hear hear_prepare hear_accept hear_learn hear_promise hear_accepted propose_one own_value hear_offer campaign hear_alive tick take hear_welcome forget
 primary_moved_text = refl
 
 -- expelled-unaware
@@ -232,7 +232,7 @@ expelled_unaware_text : full expelled_unaware ≡
     codes "18 3.1 answer o4 undecided 3.1#1" ∷
     codes "19 3.1 answer 8 member left" ∷
     []
-unfolding by_index full run apply event settle drain step found start call point settle_slots read turn node_step hear hear_prepare hear_accept hear_learn hear_promise hear_accepted propose_one own_value hear_offer campaign hear_alive tick take hear_welcome forget
+unfolding by_index full run apply plays move settle drain step found start call point settle_slots read turn node_step hear hear_prepare hear_accept hear_learn hear_promise hear_accepted propose_one own_value hear_offer campaign hear_alive tick take hear_welcome forget
 expelled_unaware_text = refl
 
 -- majority-lost
@@ -258,7 +258,7 @@ majority_lost_text : full majority_lost ≡
     codes "6 1.1 answer o6 not online ERROR" ∷
     codes "6 1.1 answer o6 rolled back" ∷
     []
-unfolding by_index full run apply event settle drain step found start call point settle_slots read turn node_step hear hear_prepare hear_accept hear_learn hear_promise hear_accepted propose_one own_value hear_offer campaign hear_alive tick take hear_welcome forget
+unfolding by_index full run apply plays move settle drain step found start call point settle_slots read turn node_step hear hear_prepare hear_accept hear_learn hear_promise hear_accepted propose_one own_value hear_offer campaign hear_alive tick take hear_welcome forget
 majority_lost_text = refl
 
 -- removed-with-queue
@@ -294,5 +294,5 @@ removed_with_queue_text : full removed_with_queue ≡
     codes "6 2.1 committed aaaaaaaa-aaaa-aaaa-aaaa-aaaaaaaaaaaa:1" ∷
     codes "7 3.1 reply idle" ∷
     []
-unfolding by_index full run apply event settle drain step found start call point settle_slots read turn node_step hear hear_prepare hear_accept hear_learn hear_promise hear_accepted propose_one own_value hear_offer campaign hear_alive tick take hear_welcome forget
+unfolding by_index full run apply plays move settle drain step found start call point settle_slots read turn node_step hear hear_prepare hear_accept hear_learn hear_promise hear_accepted propose_one own_value hear_offer campaign hear_alive tick take hear_welcome forget
 removed_with_queue_text = refl

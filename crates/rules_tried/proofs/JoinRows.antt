@@ -11,8 +11,8 @@ use Rattle.group_rules.specs.declared.requests.Request.TheVariants.{Begin, Get, 
 use Rattle.group_rules.specs.declared.requests.Operator.TheVariants.{Campaign, Tell, Leave, SetPrimary, Single as SetSingle, Multi as SetMulti, AskDonor, DonorFailed}
 use Rattle.group_rules.specs.declared.steps.Step.{Step}
 use Rattle.group_rules.specs.declared.steps.Step.TheVariants.{Server, Block, Found, Session, Once, Operate, Deliver, Lose, Settle, Work, Drain, Tick, Start, Stop, Offline, ShowMembers, ShowSlots, ShowConfig, ShowGtids, ShowRows, ShowQueue, ShowCertifier, ShowKept, ShowWire}
-use Rattle.group_rules.specs.World.{default_uuid, event}
-use Rattle.group_rules.specs.Script.{apply, settle, drain, run}
+use Rattle.group_rules.specs.World.{default_uuid, move}
+use Rattle.group_rules.specs.Script.{apply, plays, settle, drain, run}
 use Rattle.group_rules.specs.Texts.{full}
 use Rattle.group_rules.specs.Calls.{call}
 use Rattle.group_rules.specs.Points.{point}
@@ -96,7 +96,7 @@ joiner_online_inside_after_text : full joiner_online_inside_after ≡
     codes "15 3.1 answer 9 begun aaaaaaaa-aaaa-aaaa-aaaa-aaaaaaaaaaaa:1" ∷
     codes "16 3.1 answer 9 row 1" ∷
     []
-unfolding by_index full run apply event settle drain step found start call point settle_slots read turn node_step hear hear_prepare hear_accept hear_learn hear_promise hear_accepted propose_one own_value hear_offer campaign hear_alive tick take hear_welcome forget
+unfolding by_index full run apply plays move settle drain step found start call point settle_slots read turn node_step hear hear_prepare hear_accept hear_learn hear_promise hear_accepted propose_one own_value hear_offer campaign hear_alive tick take hear_welcome forget
 joiner_online_inside_after_text = refl
 
 -- ten-failed-asks
@@ -162,7 +162,7 @@ ten_failed_asks_text : full ten_failed_asks ≡
     codes "25 3.1 reply no ask due" ∷
     codes "26 3.1 reply no ask pending" ∷
     []
-unfolding by_index full run apply event settle drain step found start call point settle_slots read turn node_step hear hear_prepare hear_accept hear_learn hear_promise hear_accepted propose_one own_value hear_offer campaign hear_alive tick take hear_welcome forget
+unfolding by_index full run apply plays move settle drain step found start call point settle_slots read turn node_step hear hear_prepare hear_accept hear_learn hear_promise hear_accepted propose_one own_value hear_offer campaign hear_alive tick take hear_welcome forget
 ten_failed_asks_text = refl
 
 -- give-of-the-add
@@ -204,5 +204,5 @@ give_of_the_add_text : full give_of_the_add ≡
     codes "9 3.1 item t a aaaaaaaa-aaaa-aaaa-aaaa-aaaaaaaaaaaa:1" ∷
     codes "9 3.1 items 1" ∷
     []
-unfolding by_index full run apply event settle drain step found start call point settle_slots read turn node_step hear hear_prepare hear_accept hear_learn hear_promise hear_accepted propose_one own_value hear_offer campaign hear_alive tick take hear_welcome forget
+unfolding by_index full run apply plays move settle drain step found start call point settle_slots read turn node_step hear hear_prepare hear_accept hear_learn hear_promise hear_accepted propose_one own_value hear_offer campaign hear_alive tick take hear_welcome forget
 give_of_the_add_text = refl

@@ -11,8 +11,8 @@ use Rattle.group_rules.specs.declared.requests.Request.TheVariants.{Begin, Get, 
 use Rattle.group_rules.specs.declared.requests.Operator.TheVariants.{Campaign, Tell, Leave, SetPrimary, Single as SetSingle, Multi as SetMulti, AskDonor, DonorFailed}
 use Rattle.group_rules.specs.declared.steps.Step.{Step}
 use Rattle.group_rules.specs.declared.steps.Step.TheVariants.{Server, Block, Found, Session, Once, Operate, Deliver, Lose, Settle, Work, Drain, Tick, Start, Stop, Offline, ShowMembers, ShowSlots, ShowConfig, ShowGtids, ShowRows, ShowQueue, ShowCertifier, ShowKept, ShowWire}
-use Rattle.group_rules.specs.World.{default_uuid, event}
-use Rattle.group_rules.specs.Script.{apply, settle, drain, run}
+use Rattle.group_rules.specs.World.{default_uuid, move}
+use Rattle.group_rules.specs.Script.{apply, plays, settle, drain, run}
 use Rattle.group_rules.specs.Texts.{full}
 use Rattle.group_rules.specs.Calls.{call}
 use Rattle.group_rules.specs.Points.{point}
@@ -134,5 +134,5 @@ rejoin_with_gap_text : full rejoin_with_gap ≡
     codes "27 4.1 given 7 3" ∷
     codes "27 4.1 state ERROR extra 00000000-0000-0000-0000-000000000004:1" ∷
     []
-unfolding by_index full run apply event settle drain step found start call point settle_slots read turn node_step hear hear_prepare hear_accept hear_learn hear_promise hear_accepted propose_one own_value hear_offer campaign hear_alive tick take hear_welcome forget
+unfolding by_index full run apply plays move settle drain step found start call point settle_slots read turn node_step hear hear_prepare hear_accept hear_learn hear_promise hear_accepted propose_one own_value hear_offer campaign hear_alive tick take hear_welcome forget
 rejoin_with_gap_text = refl

@@ -11,8 +11,8 @@ use Rattle.group_rules.specs.declared.requests.Request.TheVariants.{Begin, Get, 
 use Rattle.group_rules.specs.declared.requests.Operator.TheVariants.{Campaign, Tell, Leave, SetPrimary, Single as SetSingle, Multi as SetMulti, AskDonor, DonorFailed}
 use Rattle.group_rules.specs.declared.steps.Step.{Step}
 use Rattle.group_rules.specs.declared.steps.Step.TheVariants.{Server, Block, Found, Session, Once, Operate, Deliver, Lose, Settle, Work, Drain, Tick, Start, Stop, Offline, ShowMembers, ShowSlots, ShowConfig, ShowGtids, ShowRows, ShowQueue, ShowCertifier, ShowKept, ShowWire}
-use Rattle.group_rules.specs.World.{default_uuid, event}
-use Rattle.group_rules.specs.Script.{apply, settle, drain, run}
+use Rattle.group_rules.specs.World.{default_uuid, move}
+use Rattle.group_rules.specs.Script.{apply, plays, settle, drain, run}
 use Rattle.group_rules.specs.Texts.{full}
 use Rattle.group_rules.specs.Calls.{call}
 use Rattle.group_rules.specs.Points.{point}
@@ -72,5 +72,5 @@ tenth_member_void_text : full tenth_member_void ≡
     codes "4 8.1 took 1 1.1#1 add 10.1 void" ∷
     codes "4 9.1 took 1 1.1#1 add 10.1 void" ∷
     []
-unfolding by_index full run apply event settle drain step found start call point settle_slots read turn node_step hear hear_prepare hear_accept hear_learn hear_promise hear_accepted propose_one own_value hear_offer campaign hear_alive tick take hear_welcome forget
+unfolding by_index full run apply plays move settle drain step found start call point settle_slots read turn node_step hear hear_prepare hear_accept hear_learn hear_promise hear_accepted propose_one own_value hear_offer campaign hear_alive tick take hear_welcome forget
 tenth_member_void_text = refl
