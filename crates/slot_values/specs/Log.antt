@@ -1,6 +1,6 @@
 -- The kept list of a log, its members, and the configurations behind the horizon.
 -- (Reconfiguration of a replicated state machine by its own commands: Lamport, Malkhi, Zhou, "Reconfiguring a State Machine".)
-use Rattle.std.specs.Prelude.{ℕ, Bool, true, ◌+◌, ◌-◌, ◌*◌, ◌&&◌, not, Option, None, List, [], ◌∷◌, ◌++◌, map, filter, fold, count_by, length, take, replicate, slice_get, nat_lt, ◌==◌, if◌then◌else◌}
+use Rattle.std.specs.Prelude.{ℕ, Bool, true, ◌+◌, ◌-◌, ◌*◌, ◌&&◌, not, Option, None, List, [], ◌∷◌, ◌++◌, map, filter, fold, count_by, length, take, drop, replicate, slice_get, nat_lt, ◌==◌, if◌then◌else◌}
 use Rattle.std.specs.List.{list_any}
 use Rattle.gr_ids.specs.declared.names.Inc.{Inc}
 use Rattle.gr_ids.specs.Names.{inc_eq, inc_lt, has_inc}
@@ -120,3 +120,7 @@ turn w v = record { slot = w.slot + 1; reading = read w.reading v; base = w.base
 
 abbrev pub config_of : Turns → ℕ → Option (List Inc)
 config_of w t = if nat_lt w.base t then slice_get w.configs (t - (w.base + 1)) else None
+
+-- the configurations of slots below k are forgotten
+abbrev pub forget_configs : ℕ → Turns → Turns
+forget_configs k w = let d : ℕ = k - (w.base + 1) in record w { base = w.base + d; configs = drop d w.configs }

@@ -1,0 +1,17 @@
+pub mod Names
+pub mod Lists
+pub mod Slots
+pub mod Acceptor
+pub mod Learner
+pub mod Known
+pub mod Leader
+pub mod Node
+pub mod Voting
+pub mod Learning
+pub mod Proposing
+pub mod Welcoming
+pub mod Ticks
+pub mod Taking
+pub mod Step
+pub mod Chosen
+pub mod World
