@@ -1,12 +1,18 @@
 // A list of bytes.
-ghost use Rattle.std.specs.Prelude.{◌≡◌, ℕ, List, IfOk, length};
+ghost use Rattle.std.specs.Prelude.{◌≡◌, ℕ, List, IfOk, length, refl, Some};
+ghost use Rattle.std.specs.Cmp.{partial_equiv_from_equiv};
+ghost use Rattle.std.specs.Cmp.Lexicographic.{slice_cmp, nat_list_cmp_total, nat_list_eq_equiv, texts_po, texts_ties};
+ghost use Rattle.std.specs.Ordering.{nat_cmp};
+ghost use Rattle.std.specs.Str.{bytes_eq};
 ghost use Rattle.gr_ids.specs.declared.memory.Memory.{Memory};
 
 use crate::memory::Memory;
 use std::alloc::Global;
+use std::cmp::Ordering;
 use std::marker::Model;
 
-/// Bytes, which contracts see as a list.
+/// Bytes, which contracts see as a list. They are ordered as byte strings: the first byte that differs decides,
+/// and a beginning stands before what it begins. A comparison is linear in the shorter one.
 #[derive(Debug, Drop)]
 pub struct Blob {
     bytes: Vec<u8>,
@@ -16,6 +22,44 @@ impl Model for Blob {
     ghost Value = { List ℕ };
 
     ghost view = { λ b. b.bytes.items };
+}
+
+impl PartialEq for Blob {
+    ghost eq = { bytes_eq };
+
+    ghost laws = { partial_equiv_from_equiv nat_list_eq_equiv };
+
+    fn eq(&self, other: &Blob) -> bool {
+        self.bytes == other.bytes
+    }
+}
+
+impl Eq for Blob {
+    ghost laws = { nat_list_eq_equiv };
+}
+
+impl PartialOrd for Blob {
+    ghost partial_cmp = { λ a b. Some (slice_cmp nat_cmp a b) };
+
+    ghost laws = { texts_po };
+
+    fn partial_cmp(&self, other: &Blob) -> Option<Ordering> {
+        Some(self.cmp(other))
+    }
+}
+
+impl Ord for Blob {
+    ghost cmp = { slice_cmp nat_cmp };
+
+    ghost total = { nat_list_cmp_total };
+
+    ghost matches_partial_cmp = { λ a b. refl };
+
+    ghost matches_eq = { texts_ties };
+
+    fn cmp(&self, other: &Blob) -> Ordering {
+        self.bytes.cmp(&other.bytes)
+    }
 }
 
 impl Blob {
@@ -33,6 +77,13 @@ impl Blob {
         ensures { result ≡ bytes.items }
     {
         Blob { bytes }
+    }
+
+    /// A copy. Linear in the bytes.
+    pub fn try_copy(&self, alloc: Global) -> Result<Blob, Memory>
+        ensures { IfOk result (λ copy. copy ≡ self.now) }
+    {
+        Blob::of(alloc, &self.bytes)
     }
 
     /// The bytes.

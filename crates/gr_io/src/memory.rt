@@ -52,14 +52,15 @@ impl Source for MemSource {
 }
 
 /// Bytes in memory, of which a push takes at most `most`. It tells its bytes.
-/// It fails at the calls whose numbers it was given, counted from 1, and where memory is refused.
-/// With a `most` of 0 each push of a piece that isn't empty is idle.
+/// By the numbers that it was given, counted from 1, it fails at some calls and takes nothing at others.
+/// It also fails where memory is refused.
 #[derive(Drop)]
 pub struct MemSink {
     bytes: Vec<u8>,
     most: usize,
     calls: u64,
     failing: Vec<u64>,
+    idling: Vec<u64>,
     faults: u64,
     idle: u64,
 }
@@ -67,8 +68,9 @@ pub struct MemSink {
 impl MemSink {
     ghost use Rattle.gr_io.specs.Memory.{mem_sink_bytes};
 
-    /// An empty sink, which takes `most` at a time and fails at the calls `failing`; takes no memory.
-    pub fn new(alloc: Global, most: usize, failing: Vec<u64>) -> Self
+    /// An empty sink, which takes `most` at a time, fails at the calls `failing` and takes nothing at the calls `idling`;
+    /// takes no memory.
+    pub fn new(alloc: Global, most: usize, failing: Vec<u64>, idling: Vec<u64>) -> Self
         ensures { mem_sink_bytes result ≡ [] }
     {
         MemSink {
@@ -76,9 +78,20 @@ impl MemSink {
             most,
             calls: 0,
             failing,
+            idling,
             faults: 0,
             idle: 0,
         }
+    }
+
+    // How much of a piece of this length this call takes.
+    fn share(&self, len: usize) -> usize
+        ensures { result ≤ len }
+    {
+        if self.idling.contains(&self.calls) {
+            return 0;
+        }
+        len.min(self.most)
     }
 
     /// The bytes that were written.
@@ -98,7 +111,7 @@ impl Sink for MemSink {
 
     fn push(&mut self, piece: &[u8]) -> Result<usize, Failed> {
         self.calls = self.calls.saturating_add(1);
-        let count = piece.len().min(self.most);
+        let count = self.share(piece.len());
         if self.failing.contains(&self.calls)
             || self.bytes.extend_from_slice(&piece[..count]).is_err()
         {

@@ -1,5 +1,5 @@
 // The edge to std's readers and writers, each with a count of its errors. They tell no bytes.
-ghost use Rattle.std.specs.Prelude.{None};
+ghost use Rattle.std.specs.Prelude.{◌≡◌, None};
 
 use crate::failed::Failed;
 use crate::sink::Sink;
@@ -15,7 +15,10 @@ pub struct StdSource<R> {
 
 impl<R: Read> StdSource<R> {
     /// The reader, with no faults so far.
-    pub fn new(inner: R) -> Self {
+    pub fn new(inner: R) -> Self
+        ensures reader { result.inner ≡ inner }
+        ensures faults { result.faults ≡ 0 }
+    {
         StdSource { inner, faults: 0 }
     }
 }
@@ -46,7 +49,10 @@ pub struct StdSink<W> {
 
 impl<W: Write> StdSink<W> {
     /// The writer, with no faults and no idle pushes so far.
-    pub fn new(inner: W) -> Self {
+    pub fn new(inner: W) -> Self
+        ensures writer { result.inner ≡ inner }
+        ensures counts { (result.faults ≡ 0) × (result.idle ≡ 0) }
+    {
         StdSink {
             inner,
             faults: 0,

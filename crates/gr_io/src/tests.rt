@@ -28,11 +28,13 @@ fn std_sink_takes_all(rt: HostRuntime) -> Result<(), Fail> {
 fn puts_stop_where_they_are_told(rt: HostRuntime) -> Result<(), Fail> {
     let mut calls = Vec::new(rt.alloc());
     calls.push(3)?;
-    let mut sink = MemSink::new(rt.alloc(), 2, calls);
+    let mut sink = MemSink::new(rt.alloc(), 2, calls, Vec::new(rt.alloc()));
     assert!(rt; put_all(&mut sink, b"abcdef") == Err(PutFault::Failed { taken: 4 }));
     assert_eq!(rt; sink.bytes(), b"abcd".as_slice());
-    let mut idle = MemSink::new(rt.alloc(), 0, Vec::new(rt.alloc()));
-    assert!(rt; put_all(&mut idle, b"ab") == Err(PutFault::TookNothing { taken: 0 }));
+    let mut calls = Vec::new(rt.alloc());
+    calls.push(2)?;
+    let mut idle = MemSink::new(rt.alloc(), 3, Vec::new(rt.alloc()), calls);
+    assert!(rt; put_all(&mut idle, b"abcdef") == Err(PutFault::TookNothing { taken: 3 }));
     let mut sure = SureSink::new(rt.alloc());
     assert!(rt; sure.push(b"xy") == Ok(2));
     assert_eq!(rt; sure.bytes(), b"xy".as_slice());

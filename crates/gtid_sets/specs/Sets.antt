@@ -1,6 +1,6 @@
 -- GTID sets as their longest runs: membership and the operations.
 use Rattle.std.specs.Prelude.{ℕ, ◌+◌, ◌-◌, Bool, true, false, ◌&&◌, List, [], ◌∷◌, ◌++◌, nat_lt, nat_le, fold, flat_map, if◌then◌else◌}
-use Rattle.std.specs.List.{list_any}
+use Rattle.std.specs.List.{list_any, list_all}
 use Rattle.gr_ids.specs.declared.names.Gtid.{Gtid}
 use Rattle.gr_ids.specs.Names.{bytes_eq, bytes_lt}
 pub use Rattle.gtid_sets.specs.declared.run.Run.{Run}
@@ -14,7 +14,7 @@ in_run g r = bytes_eq r.source g.source && (nat_le r.first g.number && nat_le g.
 abbrev pub has : Gtids → Gtid → Bool
 has s g = list_any (in_run g) s
 
--- where a run stands to another: wholly before it with a gap between, wholly after it with a gap, or one that touches or overlaps it
+-- whether a run stands before another one, with a gap between
 abbrev pub before_run : Run → Run → Bool
 before_run a b = if bytes_eq a.source b.source then nat_lt (a.last + 1) b.first else bytes_lt a.source b.source
 
@@ -60,3 +60,15 @@ cut_out b a = if bytes_eq a.source b.source then below a b.first ++ above a b.la
 abbrev pub minus : Gtids → Gtids → Gtids
 minus a [] = a
 minus a (b ∷ bs) = minus (flat_map (cut_out b) a) bs
+
+-- whether the second has all that the first has
+abbrev pub covers : Run → Run → Bool
+covers r q = bytes_eq q.source r.source && nat_le q.first r.first && nat_le r.last q.last
+
+abbrev pub subset : Gtids → Gtids → Bool
+subset a b = list_all (λ r. list_any (covers r) b) a
+
+-- how many GTIDs it has
+abbrev pub count_of : Gtids → ℕ
+count_of [] = 0
+count_of (r ∷ rs) = ((r.last + 1) - r.first) + count_of rs

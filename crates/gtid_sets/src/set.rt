@@ -1,6 +1,4 @@
 // A set of GTIDs as its longest runs.
-ghost use Rattle.std.specs.Prelude.{◌≡◌, []};
-
 use crate::run::Run;
 use std::alloc::Global;
 use std::marker::Model;
@@ -19,9 +17,16 @@ impl Model for GtidSet {
     ghost Value = { List Run };
 
     ghost view = { λ s. s.runs.items };
+
+    ghost use Rattle.gtid_sets.specs.Canonical.{IsCanonical};
+
+    ghost invariant = { λ s. IsCanonical s.runs.items };
 }
 
 impl GtidSet {
+    ghost use Rattle.std.specs.Prelude.{◌≡◌, ◌↔◌, [], IsTrue};
+    ghost use Rattle.gtid_sets.specs.Canonical.{IsCanonical};
+
     /// The empty set; takes no memory.
     pub fn new(alloc: Global) -> Self
         ensures { result ≡ [] }
@@ -29,5 +34,20 @@ impl GtidSet {
         GtidSet {
             runs: Vec::new(alloc),
         }
+    }
+
+    /// The longest runs, ascending by source, then number.
+    pub fn runs(&self) -> &[Run]
+        ensures runs { result.now ≡ self.now }
+        ensures canonical { IsCanonical self.now }
+    {
+        &self.runs
+    }
+
+    /// Whether it has no GTID.
+    pub fn is_empty(&self) -> bool
+        ensures { IsTrue result ↔ (self.now ≡ []) }
+    {
+        self.runs.is_empty()
     }
 }

@@ -1,0 +1,96 @@
+-- The two sides of the basic forms, and how forms are put together.
+use Rattle.std.proofs.Common.{◌≡◌, ℕ, zero, suc, ◌+◌, ◌-◌, ◌*◌, ◌/◌, ◌%◌, ◌^◌, ◌<◌, ◌≤◌, Bool, true, false, ◌&&◌, List, [], ◌∷◌, ◌++◌, length, take, drop, Option, Some, None, refl, sym, ap, subst, ◌∙◌, arith, append_assoc}
+use Rattle.std.specs.List.{flat_map}
+use Rattle.byte_forms.specs.Numbers.{number, number_of, are_bytes}
+use Rattle.byte_forms.specs.Reads.{Read, Got, Fault, Reader, go_on, ◌>>=◌, pure}
+use Rattle.byte_forms.specs.Fields.{field, word, begins_number, number_in}
+use Rattle.byte_forms.specs.Lists.{several, counted, elements, IsChain, list_of, bytes_in}
+use Rattle.byte_forms.specs.Forms.{IsForm}
+use Rattle.byte_forms.proofs.FieldLemmas.{go_on-got, field-again, field-got, number_in-again, number_in-got}
+
+pub word_form : (n : ℕ) → IsForm (λ bytes. length bytes ≡ n) (λ bytes. bytes) (word n)
+word_form n = record {
+  reads = λ x rest fits. subst (λ (k : ℕ). word k (x ++ rest) ≡ Got x rest) fits (field-again (λ _. true) x rest (λ front more e. refl));
+  spells = λ bytes rest x e. (let f = field-got (λ _. true) n bytes x rest e in (f.long, f.parts));
+}
+
+pub number_form : (k low high : ℕ) → 0 < k → IsForm (λ n. (low ≤ n) × (n ≤ high) × (n < 256 ^ k)) (number k) (number_in k low high)
+number_form k low high pos = record {
+  reads = λ n rest fits. number_in-again k low high n rest fits.0 fits.1 fits.2;
+  spells = λ bytes rest n e. (let f = number_in-got k low high n bytes rest pos e in ((f.above, f.below, f.small), f.parts));
+}
+
+-- no spelling of a form begins another one
+pub spelled_once : {A : Type 0} {Fits : A → Type 0} {spelling : A → List ℕ} {read : Reader A} → IsForm Fits spelling read → (x y : A) (a b : List ℕ) → Fits x → Fits y → spelling x ++ a ≡ spelling y ++ b → (x ≡ y) × (a ≡ b)
+spelled_once {read = read} form x y a b fx fy e =
+    let same : Got x a ≡ Got y b = sym (form.reads x a fx) ∙ ap read e ∙ form.reads y b fy in
+    (cc, cc)
+
+pub elements_form : {A : Type 0} (Fits : Option A → A → Type 0) (spelling : A → List ℕ) (read : Option A → Reader A) → ((before : Option A) → IsForm (Fits before) spelling (read before))
+    → (n : ℕ) (before : Option A) → IsForm (λ xs. IsChain Fits before xs × (length xs ≡ n)) (flat_map spelling) (elements read before n)
+unfolding elements
+elements_form {A} Fits spelling read forms n before = record { reads = again n before; spells = got n before }
+  where
+    again : (n : ℕ) (before : Option A) (xs : List A) (rest : List ℕ) → IsChain Fits before xs × (length xs ≡ n) → elements read before n (flat_map spelling xs ++ rest) ≡ Got xs rest
+    again zero before [] rest fits = refl
+    again zero before (x ∷ xs) rest fits = absurd (omega (arith, fits.1))
+    again (suc n) before [] rest fits = absurd (omega (arith, fits.1))
+    again (suc n) before (x ∷ xs) rest fits =
+        let first = (forms before).reads x (flat_map spelling xs ++ rest) fits.0.0 in
+        let others = again n (Some x) xs rest (fits.0.1, omega (arith, fits.1)) in
+        rw (append_assoc (spelling x) (flat_map spelling xs) rest, first, others) refl
+
+    got : (n : ℕ) (before : Option A) (bytes rest : List ℕ) (xs : List A) → elements read before n bytes ≡ Got xs rest → (IsChain Fits before xs × (length xs ≡ n)) × (bytes ≡ flat_map spelling xs ++ rest)
+    got zero before bytes rest [] e = ((tt, refl), cc)
+    got zero before bytes rest (x ∷ xs) e = absurd cc
+    got (suc n) before bytes rest xs e =
+        let f = go_on-got (read before bytes) (λ x. elements read (Some x) n >>= λ xs. pure (x ∷ xs)) xs rest e in
+        let g = go_on-got (elements read (Some f.first) n f.behind) (λ xs. pure (f.first ∷ xs)) xs rest f.then_reads in
+        let first = (forms before).spells bytes f.behind f.first f.reads in
+        let others = got n (Some f.first) f.behind g.behind g.first g.reads in
+        let end : Got (f.first ∷ g.first) g.behind ≡ Got xs rest = g.then_reads in
+        let is : f.first ∷ g.first ≡ xs = cc in
+        let same : g.behind ≡ rest = cc in
+        let parts : bytes ≡ flat_map spelling (f.first ∷ g.first) ++ rest =
+        first.1 ∙ ap (λ ys. spelling f.first ++ ys) (others.1 ∙ ap (λ ys. flat_map spelling g.first ++ ys) same) ∙ sym (append_assoc (spelling f.first) (flat_map spelling g.first) rest) in
+        let there : List A → Type 0 = λ ys. (IsChain Fits before ys × (length ys ≡ suc n)) × (bytes ≡ flat_map spelling ys ++ rest) in
+        subst there is (((first.0, others.0.0), ap suc others.0.1), parts)
+
+-- a list, with a condition on each element in the light of the one before
+abbrev pub IsListed : {A : Type 0} → ℕ → (Option A → A → Type 0) → List A → Type 0
+IsListed least Fits xs = IsChain Fits None xs × (least ≤ length xs) × (length xs < 2 ^ 32)
+
+pub list_form : {A : Type 0} (least : ℕ) (Fits : Option A → A → Type 0) (spelling : A → List ℕ) (read : Option A → Reader A) → ((before : Option A) → IsForm (Fits before) spelling (read before))
+    → IsForm (IsListed least Fits) (several spelling) (list_of least read)
+list_form {A} least Fits spelling read forms = record {
+  reads = λ xs rest fits.
+    (let count = number_in-again 4 least 4294967295 (length xs) (flat_map spelling xs ++ rest) fits.1 (omega (arith, fits.2)) (omega (arith, fits.2)) in
+    let all = (elements_form Fits spelling read forms (length xs) None).reads xs rest (fits.0, refl) in
+    rw (append_assoc (number 4 (length xs)) (flat_map spelling xs) rest, count) all);
+  spells = λ bytes rest xs e.
+    (let f = go_on-got (number_in 4 least 4294967295 bytes) (elements read None) xs rest e in
+    let count = number_in-got 4 least 4294967295 f.first bytes f.behind (omega arith) f.reads in
+    let all = (elements_form Fits spelling read forms f.first None).spells f.behind rest xs f.then_reads in
+    let is : length xs ≡ f.first = all.0.1 in
+    let at_least : least ≤ length xs = omega (arith, is, count.above) in
+    let small : length xs < 2 ^ 32 = omega (arith, is, count.small) in
+    ((all.0.0, at_least, small),
+    count.parts ∙ ap (λ ys. number 4 f.first ++ ys) all.1 ∙ ap (λ n. number 4 n ++ (flat_map spelling xs ++ rest)) (sym is) ∙ sym (append_assoc (number 4 (length xs)) (flat_map spelling xs) rest)));
+}
+
+pub counted_form : (low high : ℕ) → IsForm (λ bytes. (low ≤ length bytes) × (length bytes ≤ high) × (length bytes < 2 ^ 32)) counted (bytes_in low high)
+counted_form low high = record {
+  reads = λ xs rest fits.
+    (let count = number_in-again 4 low high (length xs) (xs ++ rest) fits.0 fits.1 fits.2 in
+    rw (append_assoc (number 4 (length xs)) xs rest, count) ((word_form (length xs)).reads xs rest refl));
+  spells = λ bytes rest xs e.
+    (let f = go_on-got (number_in 4 low high bytes) word xs rest e in
+    let count = number_in-got 4 low high f.first bytes f.behind (omega arith) f.reads in
+    let all = (word_form f.first).spells f.behind rest xs f.then_reads in
+    let is : length xs ≡ f.first = all.0 in
+    let above : low ≤ length xs = omega (arith, is, count.above) in
+    let below : length xs ≤ high = omega (arith, is, count.below) in
+    let small : length xs < 2 ^ 32 = omega (arith, is, count.small) in
+    ((above, below, small),
+    count.parts ∙ ap (λ ys. number 4 f.first ++ ys) all.1 ∙ ap (λ n. number 4 n ++ (xs ++ rest)) (sym is) ∙ sym (append_assoc (number 4 (length xs)) xs rest)));
+}

@@ -1,0 +1,34 @@
+//! Runs scripts of a group and writes what its members answer.
+#![tactic(auto)]
+
+mod command;
+mod front_line;
+mod grammar;
+mod limits;
+mod line;
+mod reader;
+mod run;
+mod said;
+mod scan;
+mod status;
+mod step;
+#[cfg(test)]
+mod tests;
+mod texts;
+mod words;
+mod world;
+
+use gr_io::{StdSink, StdSource};
+use std::process::ExitCode;
+use std::{env, io};
+
+fn main(rt: HostRuntime) -> io::Result<ExitCode> {
+    let mut words = Vec::new(rt.alloc());
+    for word in env::args(&rt)?.skip(1) {
+        words.push(word)?;
+    }
+    let mut source = StdSource::new(rt.stdin());
+    let mut sink = StdSink::new(rt.stdout());
+    let status = run::run_script(rt.alloc(), &words, &mut source, &mut sink);
+    Ok(ExitCode::from(status.code()))
+}
