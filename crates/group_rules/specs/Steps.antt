@@ -1,9 +1,9 @@
 -- A member's whole step: its action, then a point, then the decided slots with a point after each, and last the mark Held.
-use Rattle.std.specs.Prelude.{ℕ, ◌+◌, ◌-◌, ◌%◌, Bool, true, false, ◌&&◌, ◌||◌, not, Option, Some, None, List, [], ◌∷◌, nat_le, ◌==◌, length, map, take, reverse}
+use Rattle.std.specs.Prelude.{ℕ, ◌-◌, ◌%◌, Bool, true, false, ◌&&◌, ◌||◌, not, Option, Some, None, List, [], ◌∷◌, nat_le, ◌==◌, length, map, take, reverse}
 use Rattle.std.specs.List.{list_any}
 use Rattle.gr_ids.specs.Names.{inc_eq, has_inc, bytes_eq}
 use Rattle.slot_values.specs.Log.{Group}
-use Rattle.group_rules.specs.Names.{Inc, Joiner, Online, Offline, What, Add, Remove, Says, Value, ToMulti, ToSingle, Body, Executed, Switches, Appoints, Message, Wire, Prepare, Accept, Offer, Greet, Asks, Gives, Gone, Campaign, Tell, Leave, SetPrimary, SetSingle, SetMulti, AskDonor, DonorFailed, Finish, Operator, Held, HoldTimeout, SentAs, AtBallot, Finished, IsNotOnline, NotQueued, AlreadyDone, Founded, Started, WasGone, NoMajority}
+use Rattle.group_rules.specs.Names.{Inc, Joiner, Online, Offline, What, Add, Remove, Value, ToMulti, ToSingle, Executed, Switches, Appoints, Message, Wire, Prepare, Accept, Offer, Greet, Asks, Gives, Gone, Campaign, Tell, Leave, SetPrimary, SetSingle, SetMulti, AskDonor, DonorFailed, Finish, Operator, Held, HoldTimeout, SentAs, AtBallot, Finished, IsNotOnline, NotQueued, AlreadyDone, Founded, Started, WasGone, NoMajority}
 use Rattle.group_rules.specs.View.{seated, online_incs}
 use Rattle.node_rules.specs.declared.event.PaxosEvent.TheVariants.{Heard, Campaign as Campaigns, Tick}
 use Rattle.node_rules.specs.Node.{founder, joiner}
