@@ -52,9 +52,13 @@ higher None y = y
 higher (Some x) None = Some x
 higher (Some x) (Some y) = if ballot_lt x.ballot y.ballot then Some y else Some x
 
+-- a promiser outside the configuration doesn't count
+abbrev pub better : List Inc → ℕ → Option Vote → Promised → Option Vote
+better c t x p = if has_inc c p.inc then higher x (vote_at p.votes t) else x
+
 -- the vote at the highest ballot for the slot, of those that promisers in this configuration reported
 abbrev pub best : List Inc → List Promised → ℕ → Option Vote
-best c ps t = fold (λ x p. if has_inc c p.inc then higher x (vote_at p.votes t) else x) None ps
+best c ps t = fold (better c t) None ps
 
 abbrev pub reported_above : List Promised → ℕ → Bool
 reported_above ps t = list_any (λ p. list_any (λ x. nat_lt t x.slot) p.votes) ps
