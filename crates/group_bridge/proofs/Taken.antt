@@ -1,7 +1,7 @@
 -- Taking a slot is an act of the node, with the Welcome that it causes; and so is a whole step.
 use Rattle.std.proofs.Common.{◌≡◌, ◌⊎◌, inl, inr, ℕ, zero, suc, Bool, true, false, Option, Some, None, List, [], ◌∷◌, ◌++◌, refl, sym, ap, subst, ◌∙◌}
 use Rattle.std.proofs.lemmas.Bool.{false≢true}
-use Rattle.std.specs.Prelude.{◌^◌, ◌&&◌, not, flat_map, if◌then◌else◌}
+use Rattle.std.specs.Prelude.{◌^◌, ◌+◌, ◌&&◌, not, flat_map, if◌then◌else◌}
 use Rattle.gr_ids.specs.Names.{inc_eq}
 use Rattle.gr_ids.specs.declared.names.Inc.{Inc}
 use Rattle.gr_ids.specs.declared.levels.MemberState.TheVariants.{Online}
@@ -27,28 +27,29 @@ use Rattle.node_rules.specs.Node.{Effect as NodeEffect}
 use Rattle.node_rules.specs.Taking.{take, take_next, takes_effect}
 use Rattle.node_rules.specs.Welcoming.{Shown, welcome_of}
 use Rattle.node_rules.specs.World.{Takes, takes, greets, greet_by as node_greets}
-use Rattle.group_rules.specs.View.{shown}
+use Rattle.group_rules.specs.View.{shown, void_if}
 use Rattle.group_rules.specs.Events.{Did, Took, Skips, Is, Came, Replied, Entry, Event, Hears, Ticks, Works, Calls, Operates}
 use Rattle.group_rules.specs.Life.{state, is_up, is_error, view}
 use Rattle.group_rules.specs.Member.{Member, push, send, by_node, at_node, fall}
+use Rattle.group_rules.specs.Parts.{open_parts, held}
 use Rattle.group_rules.specs.Queue.{at_place, queue}
 use Rattle.group_rules.specs.Welcomes.{greet, greet_by}
 use Rattle.group_rules.specs.Points.{point}
-use Rattle.group_rules.specs.Taking.{entry_of, on_plain, causes, take_kept, reading_of, take_slot, next_slot, takes_slots, take_slots, propose, rounds, settle_slots}
+use Rattle.group_rules.specs.Taking.{entry_of, effect_of, on_plain, causes, take_kept, reading_of, take_slot, next_slot, takes_slots, take_slots, propose, rounds, settle_slots}
 use Rattle.group_rules.specs.Steps.{hear, hear_wire, hear_in_error, act_alive, act_in_error, act, held_mark, step}
 use Rattle.group_bridge.specs.Moves.{Moves, Stays, Leaves, Sends, Acts, Then, acts, cleared, Begins}
 use Rattle.group_bridge.proofs.Moved.{moves_fall, moves_on_conflict, moves_point, moves_propose, moves_hear_wire, moves_tick_once, moves_work, moves_session, moves_operator, moves_held}
 
 -- ---- lists
 
-no_cons : {A : Type 0} (x : A) (xs : List A) → [] ≡ x ∷ xs → ⊥
-no_cons {A = A} x xs e = subst (λ l. is_nil l) e tt
-  where
-    is_nil : List A → Type 0
-    is_nil [] = Unit {0}
-    is_nil (y ∷ ys) = ⊥
+abbrev IsNil : {A : Type 0} → List A → Type 0
+IsNil [] = Unit {0}
+IsNil (y ∷ ys) = ⊥
 
-tail_of : {A : Type 0} → List A → List A
+no_cons : {A : Type 0} (x : A) (xs : List A) → [] ≡ x ∷ xs → ⊥
+no_cons x xs e = subst (λ l. IsNil l) e tt
+
+abbrev tail_of : {A : Type 0} → List A → List A
 tail_of [] = []
 tail_of (x ∷ xs) = xs
 
@@ -104,3 +105,212 @@ sends_greeting a x v g d t h = Then (subst (λ s. Moves a (record a { node = (ta
     one = ap (λ l. flat_map (greets (Some v) a.node.turns (take a.node).node) l) t ∙ (append_nil (greets (Some v) a.node.turns (take a.node).node x) ∙ h)
     eq : a.sent ++ ((take a.node).sent ++ flat_map (greets (Some v) a.node.turns (take a.node).node) (take a.node).took) ≡ (a.sent ++ (take a.node).sent) ++ g ∷ []
     eq = ap (λ l. a.sent ++ ((take a.node).sent ++ l)) one ∙ sym (append_assoc a.sent (take a.node).sent (g ∷ []))
+
+-- ---- an entry taken
+
+abbrev IsPlain : Effect → Type 0
+IsPlain Plain = Unit {0}
+IsPlain x = ⊥
+
+void_plain : (b : Bool) → void_if (not b) ≡ Plain → b ≡ true
+void_plain true e = refl
+void_plain false e = absurd (subst (λ x. IsPlain x) (sym e) tt)
+
+abbrev effect_at : Became → Bool
+effect_at (KeptAt q c) = c
+effect_at IsSkipped = false
+
+-- it became the entry at a place: whether it has effect is known
+kept_effect : (r : Reading) (v : Value) (p : ℕ) (b : Bool) → became r v ≡ KeptAt p b → b ≡ true → takes_effect r v ≡ true
+kept_effect r v p b e t = go (is_kept r v) refl e
+  where
+    go : (c : Bool) → is_kept r v ≡ c → (if c then KeptAt (r.place + 1) (has_effect r v.what) else IsSkipped) ≡ KeptAt p b → (c && has_effect r v.what) ≡ true
+    go true k h = ap effect_at h ∙ t
+    go false k h = absurd (false≢true (ap effect_at h ∙ t))
+
+-- a member that is ONLINE sends a joiner a Welcome
+moves_greeting : (a : Member) (x : SlotEntry) (w : Turns) (p : ℕ) (b : Bool) (j : Joiner) (d : Did) →
+    (take a.node).took ≡ x ∷ [] → a.node.turns ≡ Some w → became (reading_of a.node.turns) x.value ≡ KeptAt p b → b ≡ true → x.value.what ≡ Add j →
+    (c : Bool) → Moves a (elim c [ true ↦ greet_by j.inc (take a.node).node.turns (push d (by_node take a)) | false ↦ push d (by_node take a) ])
+moves_greeting a x w p b j d t k q e y false = Then (takes_plainly a) (Leaves d (by_node take a))
+moves_greeting a x w p b j d t k q e y true = go (take a.node).node.turns refl
+  where
+    here : takes_effect w.reading x.value ≡ true
+    here = kept_effect w.reading x.value p b (subst (λ o. became (reading_of o) x.value ≡ KeptAt p b) k q) e
+    v : Shown
+    v = shown (view a.setup (d ∷ a.life))
+    go : (o : Option Turns) → (take a.node).node.turns ≡ o → Moves a (greet_by j.inc o (push d (by_node take a)))
+    go None f = Then (takes_plainly a) (Leaves d (by_node take a))
+    go (Some u) f = sends_greeting a x v (message (take a.node).node j.inc (Greet (welcome_of (take a.node).node u v))) d t (greets_one v w u a.node (take a.node).node x j k here y f)
+
+comes_online : (c : Bool) (a : Member) → Moves a (elim c [ true ↦ push (Is Online OwnOnline) a | false ↦ a ])
+comes_online true a = Leaves (Is Online OwnOnline) a
+comes_online false a = Stays a
+
+moves_on_noop : (o : Inc) (b : Option Body) (a : Member) → Moves a (on_plain o Noop b a)
+moves_on_noop o None a = Stays a
+moves_on_noop o (Some (Arrives e)) a = comes_online (inc_eq o a.me.inc) a
+moves_on_noop o (Some (HasTxn t)) a = Stays a
+moves_on_noop o (Some (Prepared g)) a = Stays a
+moves_on_noop o (Some Sync) a = Stays a
+moves_on_noop o (Some (Executed e)) a = Stays a
+moves_on_noop o (Some (Switches m)) a = Stays a
+moves_on_noop o (Some (Appoints i)) a = Stays a
+moves_on_noop o (Some (PartOf p)) a = Stays a
+
+moves_on_body : (o : Inc) (z : List ℕ) (b : Option Body) (a : Member) → Moves a (on_plain o (Says z) b a)
+moves_on_body o z None a = Stays a
+moves_on_body o z (Some (Arrives e)) a = comes_online (inc_eq o a.me.inc) a
+moves_on_body o z (Some (HasTxn t)) a = Stays a
+moves_on_body o z (Some (Prepared g)) a = Stays a
+moves_on_body o z (Some Sync) a = Stays a
+moves_on_body o z (Some (Executed e)) a = Stays a
+moves_on_body o z (Some (Switches m)) a = Stays a
+moves_on_body o z (Some (Appoints i)) a = Stays a
+moves_on_body o z (Some (PartOf p)) a = Stays a
+
+-- an Add that takes effect
+add_plain : (a : Member) (t p : ℕ) (b : Bool) (v : Value) (j : Joiner) → v.what ≡ Add j → (entry_of a.setup a.life t p b v).effect ≡ Plain → b ≡ true
+add_plain a t p b v j y h = void_plain b (subst (λ u. effect_of a.setup a.life b u (open_parts a.life v.id.origin) (held (open_parts a.life v.id.origin) u.what) ≡ Plain) as_add h)
+  where
+    as_add : v ≡ record { id = v.id; what = Add j }
+    as_add = λ i. record { id = v.id; what = y i }
+
+moves_plain : (a : Member) (x : SlotEntry) (w : Turns) (p : ℕ) (b : Bool) → (take a.node).took ≡ x ∷ [] → a.node.turns ≡ Some w → became (reading_of a.node.turns) x.value ≡ KeptAt p b →
+    (entry_of a.setup a.life x.slot p b x.value).effect ≡ Plain →
+    Moves a (on_plain x.value.id.origin x.value.what (entry_of a.setup a.life x.slot p b x.value).holds (push (Took (entry_of a.setup a.life x.slot p b x.value)) (by_node take a)))
+moves_plain a x w p b t k q h = go x.value.what refl
+  where
+    e : Entry
+    e = entry_of a.setup a.life x.slot p b x.value
+    c : Member
+    c = push (Took e) (by_node take a)
+    taken : Moves a c
+    taken = Then (takes_plainly a) (Leaves (Took e) (by_node take a))
+    falls : (z : Bool) → Moves c (elim z [ true ↦ fall Removed c | false ↦ c ])
+    falls true = moves_fall Removed c
+    falls false = Stays c
+    go : (y : What) → x.value.what ≡ y → Moves a (on_plain x.value.id.origin y e.holds c)
+    go (Add j) f = moves_greeting a x w p b j (Took e) t k q (add_plain a x.slot p b x.value j f h) f (is_up (state c.life) && not (inc_eq j.inc c.me.inc))
+    go (Remove i) f = Then taken (falls (inc_eq i c.me.inc))
+    go Noop f = Then taken (moves_on_noop x.value.id.origin e.holds c)
+    go (Says z) f = Then taken (moves_on_body x.value.id.origin z e.holds c)
+
+moves_kept : (a : Member) (x : SlotEntry) (w : Turns) (p : ℕ) (b : Bool) → (take a.node).took ≡ x ∷ [] → a.node.turns ≡ Some w → became (reading_of a.node.turns) x.value ≡ KeptAt p b →
+    Moves a (take_kept x.slot x.value (KeptAt p b) (by_node take a))
+moves_kept a x w p b t k q = go e.effect refl
+  where
+    e : Entry
+    e = entry_of a.setup a.life x.slot p b x.value
+    c : Member
+    c = push (Took e) (by_node take a)
+    taken : Moves a c
+    taken = Then (takes_plainly a) (Leaves (Took e) (by_node take a))
+    go : (f : Effect) → e.effect ≡ f → Moves a (causes e f c)
+    go Plain h = moves_plain a x w p b t k q h
+    go Void h = taken
+    go Unread h = taken
+    go (Positive g) h = taken
+    go (Conflict g) h = Then taken (moves_on_conflict x.value.id g c)
+
+moves_slot : (a : Member) (x : SlotEntry) (xs : List SlotEntry) → (take a.node).took ≡ x ∷ xs → Moves a (take_slot (reading_of a.node.turns) x (by_node take a))
+moves_slot a x xs t = go (became (reading_of a.node.turns) x.value) refl
+  where
+    one : TookOne a.node x xs
+    one = took_one a.node x xs t
+    alone : (take a.node).took ≡ x ∷ []
+    alone = t ∙ ap (λ l. x ∷ l) one.alone
+    go : (r : Became) → became (reading_of a.node.turns) x.value ≡ r → Moves a (take_kept x.slot x.value r (by_node take a))
+    go IsSkipped q = Then (takes_plainly a) (Leaves (Skips x.slot x.value) (by_node take a))
+    go (KeptAt p b) q = moves_kept a x one.turns p b alone one.known q
+
+-- ---- all slots
+
+next_took : (a : Member) (x : SlotEntry) (xs : List SlotEntry) → next_slot a ≡ x ∷ xs → (take a.node).took ≡ x ∷ xs
+next_took a x xs e = go (takes_slots a.life) e
+  where
+    go : (b : Bool) → elim b [ true ↦ (take a.node).took | false ↦ [] ] ≡ x ∷ xs → (take a.node).took ≡ x ∷ xs
+    go true h = h
+    go false h = absurd (no_cons x xs h)
+
+moves_take_slots : (k : ℕ) (a : Member) → Moves a (take_slots k a)
+moves_take_slots zero a = Stays a
+moves_take_slots (suc k) a = go (next_slot a) refl (λ x. moves_take_slots k (point (take_slot (reading_of a.node.turns) x (by_node take a))))
+  where
+    go : (xs : List SlotEntry) → next_slot a ≡ xs → ((x : SlotEntry) → Moves (point (take_slot (reading_of a.node.turns) x (by_node take a))) (take_slots k (point (take_slot (reading_of a.node.turns) x (by_node take a))))) → Moves a (elim xs [ [] ↦ a | x ∷ xs ↦ take_slots k (point (take_slot (reading_of a.node.turns) x (by_node take a))) ])
+    go [] e h = Stays a
+    go (x ∷ xs) e h = Then (moves_slot a x xs (next_took a x xs e)) (Then (moves_point (take_slot (reading_of a.node.turns) x (by_node take a))) (h x))
+
+moves_rounds : (k : ℕ) (a : Member) → Moves a (rounds k a)
+moves_rounds zero a = Stays a
+moves_rounds (suc k) a = go (next_slot a) (moves_rounds k (propose (take_slots (2 ^ 42) a)))
+  where
+    go : (xs : List SlotEntry) → Moves (propose (take_slots (2 ^ 42) a)) (rounds k (propose (take_slots (2 ^ 42) a))) → Moves a (elim xs [ [] ↦ a | x ∷ xs ↦ rounds k (propose (take_slots (2 ^ 42) a)) ])
+    go [] h = Stays a
+    go (x ∷ xs) h = Then (moves_take_slots (2 ^ 42) a) (Then (moves_propose (take_slots (2 ^ 42) a)) h)
+
+moves_settle : (a : Member) → Moves a (settle_slots a)
+unfolding settle_slots
+moves_settle a = Then (moves_take_slots (2 ^ 42) a) (Then (moves_propose (take_slots (2 ^ 42) a)) (moves_rounds (2 ^ 42) (propose (take_slots (2 ^ 42) a))))
+
+-- ---- a whole step
+
+-- what follows the action
+moves_rest : (e : Event) (b : Member) → Moves b (held_mark e (settle_slots (point b)))
+moves_rest e b = Then (moves_point b) (Then (moves_settle (point b)) (moves_held e (settle_slots (point b))))
+
+-- a member comes to be c by an event: first a message is heard, if one came that its node hears
+pub record Stepped (e : Event) (a c : Member) : Type 0 where
+  pub begin : Member
+  pub begins : Begins e a begin
+  pub moves : Moves begin c
+
+quietly : (e : Event) (a c : Member) → Moves (cleared a) c → Stepped e a c
+quietly e a c p = record { begin = cleared a; begins = inl refl; moves = p }
+
+hearing : (m : Message) (a c : Member) → Moves (at_node (Heard m) (cleared a)) c → Stepped (Hears m) a c
+hearing m a c p = record { begin = at_node (Heard m) (cleared a); begins = inr (m, refl, refl); moves = p }
+
+came : (e : Event) (a : Member) → Moves (cleared a) (push (Came e) (cleared a))
+came e a = Leaves (Came e) (cleared a)
+
+act_alive_steps : (e : Event) (a : Member) → Stepped e a (act_alive e (push (Came e) (cleared a)))
+act_alive_steps (Hears m) a = hearing m a _ (Then (Leaves (Came (Hears m)) (at_node (Heard m) (cleared a))) (moves_hear_wire m.from m.wire (at_node (Heard m) (push (Came (Hears m)) (cleared a)))))
+act_alive_steps Ticks a = quietly Ticks a _ (Then (came Ticks a) (moves_tick_once (push (Came Ticks) (cleared a))))
+act_alive_steps (Works p b) a = quietly (Works p b) a _ (Then (came (Works p b) a) (moves_work p b (push (Came (Works p b)) (cleared a))))
+act_alive_steps (Calls s r) a = quietly (Calls s r) a _ (Then (came (Calls s r) a) (moves_session s r (push (Came (Calls s r)) (cleared a))))
+act_alive_steps (Operates o) a = quietly (Operates o) a _ (Then (came (Operates o) a) (moves_operator o (push (Came (Operates o)) (cleared a))))
+
+heard_in_error : (m : Message) (a : Member) → Stepped (Hears m) a (at_node (Heard m) (push (Came (Hears m)) (cleared a)))
+heard_in_error m a = hearing m a _ (Leaves (Came (Hears m)) (at_node (Heard m) (cleared a)))
+
+hear_in_error_steps : (m : Message) (x : Wire) (a : Member) → Stepped (Hears m) a (hear_in_error m x (cleared a))
+hear_in_error_steps m (Prepare b s) a = heard_in_error m a
+hear_in_error_steps m (Accept b t v) a = heard_in_error m a
+hear_in_error_steps m Gone a = quietly (Hears m) a _ (Stays (cleared a))
+hear_in_error_steps m (Greet w) a = quietly (Hears m) a _ (Stays (cleared a))
+hear_in_error_steps m (Offer v) a = quietly (Hears m) a _ (Stays (cleared a))
+hear_in_error_steps m (Asks x) a = quietly (Hears m) a _ (Stays (cleared a))
+hear_in_error_steps m (Gives g) a = quietly (Hears m) a _ (Stays (cleared a))
+hear_in_error_steps m (Promise b s xs) a = quietly (Hears m) a _ (Stays (cleared a))
+hear_in_error_steps m (Accepted b t) a = quietly (Hears m) a _ (Stays (cleared a))
+hear_in_error_steps m (Learn t v) a = quietly (Hears m) a _ (Stays (cleared a))
+hear_in_error_steps m (Alive n) a = quietly (Hears m) a _ (Stays (cleared a))
+
+act_in_error_steps : (e : Event) (a : Member) → Stepped e a (act_in_error e (cleared a))
+act_in_error_steps (Hears m) a = hear_in_error_steps m m.wire a
+act_in_error_steps Ticks a = quietly Ticks a _ (Stays (cleared a))
+act_in_error_steps (Works p b) a = quietly (Works p b) a _ (Leaves (Replied (NotQueued p)) (cleared a))
+act_in_error_steps (Calls s r) a = quietly (Calls s r) a _ (Then (came (Calls s r) a) (moves_session s r (push (Came (Calls s r)) (cleared a))))
+act_in_error_steps (Operates o) a = quietly (Operates o) a _ (Then (came (Operates o) a) (moves_operator o (push (Came (Operates o)) (cleared a))))
+
+act_steps : (e : Event) (a : Member) → Stepped e a (act e (cleared a))
+act_steps e a = go (is_error (state a.life))
+  where
+    go : (b : Bool) → Stepped e a (elim b [ true ↦ act_in_error e (cleared a) | false ↦ act_alive e (push (Came e) (cleared a)) ])
+    go true = act_in_error_steps e a
+    go false = act_alive_steps e a
+
+pub steps : (e : Event) (a : Member) → Stepped e a (step e a)
+unfolding step
+steps e a = let x = act_steps e a in record { begin = x.begin; begins = x.begins; moves = Then x.moves (moves_rest e (act e (cleared a))) }
