@@ -56,7 +56,7 @@ use Rattle.group_rules.specs.Welcomes.{hear_welcome}
 use Rattle.group_rules.specs.Recovery.{fail_ask, check_donor, check_ask, unless_self, ask_wire, ask_donor, donor_failed, give_at, restore, take_give, hear_give, pending_ask, give_of, certs_given}
 use Rattle.group_rules.specs.Points.{commit_all, prepare_all, begin_all, arrive, point, commit_one, answer_own, answer_commit, prepare_one, begin_one, begin_by, unless_pending}
 use Rattle.group_rules.specs.Taking.{answer_conflict, on_conflict, propose}
-use Rattle.group_rules.specs.Steps.{hear_add, hear_offer, hear_wire, done_of, time_out, time_out_by, expel_one, campaign_if_due, look_after, tell_at, member_tick, tick_on, tick_once, add_of, reply_ballot, reply_sent, if_online, leave, operate, held_mark}
+use Rattle.group_rules.specs.Steps.{hear_add, hear_offer, done_of, time_out, time_out_by, expel_one, campaign_if_due, look_after, tell_at, member_tick, tick_on, tick_once, add_of, reply_ballot, reply_sent, if_online, leave, operate, held_mark}
 use Rattle.group_bridge.specs.Moves.{Moves, Stays, Leaves, Sends, Acts, Then, acts}
 
 inc_same : (i : Inc) → inc_eq i i ≡ true
@@ -293,18 +293,21 @@ moves_hear_add (Says b) a = Stays a
 moves_hear_offer : (v : Value) (a : Member) → Moves a (hear_offer v a)
 moves_hear_offer v a = either _ (moves_hear_add v.what a) (Stays a)
 
-pub moves_hear_wire : (i : Inc) (x : Wire) (a : Member) → Moves a (hear_wire i x a)
-moves_hear_wire i Gone a = moves_fall WasGone a
-moves_hear_wire i (Greet w) a = moves_hear_welcome w a
-moves_hear_wire i (Offer v) a = moves_hear_offer v a
-moves_hear_wire i (Asks x) a = moves_give_at i x.executed (entry_at a.life x.place) a
-moves_hear_wire i (Gives g) a = moves_hear_give i g a
-moves_hear_wire i (Prepare b s) a = moves_check_ask a
-moves_hear_wire i (Promise b s xs) a = moves_check_ask a
-moves_hear_wire i (Accept b t v) a = moves_check_ask a
-moves_hear_wire i (Accepted b t) a = moves_check_ask a
-moves_hear_wire i (Learn t v) a = moves_check_ask a
-moves_hear_wire i (Alive n) a = moves_check_ask a
+-- what a message does beside its row at the node
+pub moves_after_offer : (v : Value) (a : Member) → Moves a (hear_offer v a)
+moves_after_offer v a = moves_hear_offer v a
+
+pub moves_after_welcome : (w : Welcome) (a : Member) → Moves a (hear_welcome w a)
+moves_after_welcome w a = moves_hear_welcome w a
+
+pub moves_after_other : (a : Member) → Moves a (check_ask a)
+moves_after_other a = moves_check_ask a
+
+pub moves_ask : (i : Inc) (p : ℕ) (e : Gtids) (a : Member) → Moves a (give_at i e (entry_at a.life p) a)
+moves_ask i p e a = moves_give_at i e (entry_at a.life p) a
+
+pub moves_give : (i : Inc) (g : Give) (a : Member) → Moves a (hear_give i g a)
+moves_give i g a = moves_hear_give i g a
 
 moves_done : (p : ℕ) (b : Option (List ℕ)) (o : Option Cert) (a : Member) → Moves a (done_of p b o a)
 moves_done p None o a = Leaves (Replied (NotQueued p)) a

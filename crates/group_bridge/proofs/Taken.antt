@@ -17,7 +17,7 @@ use Rattle.paxos_forms.specs.declared.message.Wire.{Wire}
 use Rattle.paxos_forms.specs.declared.message.Wire.TheVariants.{Prepare, Promise, Accept, Accepted, Learn, Offer, Welcome as Greet, Ask as Asks, Give as Gives, Alive, Gone}
 use Rattle.group_rules.specs.declared.marks.Effect.{Effect}
 use Rattle.group_rules.specs.declared.marks.Effect.TheVariants.{Plain, Void, Unread, Positive, Conflict}
-use Rattle.group_rules.specs.declared.marks.Cause.TheVariants.{OwnOnline, Removed}
+use Rattle.group_rules.specs.declared.marks.Cause.TheVariants.{OwnOnline, Removed, Gone as WasGone}
 use Rattle.group_rules.specs.declared.marks.Reply.TheVariants.{NotQueued}
 use Rattle.node_rules.specs.declared.event.PaxosEvent.TheVariants.{Heard}
 use Rattle.node_rules.specs.Slots.{Entry as SlotEntry}
@@ -36,9 +36,9 @@ use Rattle.group_rules.specs.Queue.{at_place, queue}
 use Rattle.group_rules.specs.Welcomes.{greet, greet_by}
 use Rattle.group_rules.specs.Points.{point}
 use Rattle.group_rules.specs.Taking.{entry_of, effect_of, on_plain, causes, take_kept, reading_of, take_slot, next_slot, takes_slots, take_slots, propose, rounds, settle_slots}
-use Rattle.group_rules.specs.Steps.{hear, hear_wire, hear_in_error, act_alive, act_in_error, act, held_mark, step}
+use Rattle.group_rules.specs.Steps.{hear_wire, hear_in_error, act_alive, act_in_error, act, held_mark, step}
 use Rattle.group_bridge.specs.Moves.{Moves, Stays, Leaves, Sends, Acts, Then, acts, cleared, Begins}
-use Rattle.group_bridge.proofs.Moved.{moves_fall, moves_on_conflict, moves_point, moves_propose, moves_hear_wire, moves_tick_once, moves_work, moves_session, moves_operator, moves_held}
+use Rattle.group_bridge.proofs.Moved.{moves_fall, moves_on_conflict, moves_point, moves_propose, moves_after_offer, moves_after_welcome, moves_after_other, moves_ask, moves_give, moves_tick_once, moves_work, moves_session, moves_operator, moves_held}
 
 -- ---- lists
 
@@ -274,8 +274,25 @@ hearing m a c p = record { begin = at_node (Heard m) (cleared a); begins = inr (
 came : (e : Event) (a : Member) → Moves (cleared a) (push (Came e) (cleared a))
 came e a = Leaves (Came e) (cleared a)
 
+-- the node hears the message, and then the member moves
+heard_steps : (m : Message) (a c : Member) → Moves (push (Came (Hears m)) (at_node (Heard m) (cleared a))) c → Stepped (Hears m) a c
+heard_steps m a c p = hearing m a c (Then (Leaves (Came (Hears m)) (at_node (Heard m) (cleared a))) p)
+
+hear_steps : (m : Message) (x : Wire) (a : Member) → Stepped (Hears m) a (hear_wire m x (push (Came (Hears m)) (cleared a)))
+hear_steps m (Asks x) a = quietly (Hears m) a _ (Then (came (Hears m) a) (moves_ask m.from x.place x.executed (push (Came (Hears m)) (cleared a))))
+hear_steps m (Gives g) a = quietly (Hears m) a _ (Then (came (Hears m) a) (moves_give m.from g (push (Came (Hears m)) (cleared a))))
+hear_steps m Gone a = heard_steps m a _ (moves_fall WasGone (at_node (Heard m) (push (Came (Hears m)) (cleared a))))
+hear_steps m (Greet w) a = heard_steps m a _ (moves_after_welcome w (at_node (Heard m) (push (Came (Hears m)) (cleared a))))
+hear_steps m (Offer v) a = heard_steps m a _ (moves_after_offer v (at_node (Heard m) (push (Came (Hears m)) (cleared a))))
+hear_steps m (Prepare b s) a = heard_steps m a _ (moves_after_other (at_node (Heard m) (push (Came (Hears m)) (cleared a))))
+hear_steps m (Promise b s xs) a = heard_steps m a _ (moves_after_other (at_node (Heard m) (push (Came (Hears m)) (cleared a))))
+hear_steps m (Accept b t v) a = heard_steps m a _ (moves_after_other (at_node (Heard m) (push (Came (Hears m)) (cleared a))))
+hear_steps m (Accepted b t) a = heard_steps m a _ (moves_after_other (at_node (Heard m) (push (Came (Hears m)) (cleared a))))
+hear_steps m (Learn t v) a = heard_steps m a _ (moves_after_other (at_node (Heard m) (push (Came (Hears m)) (cleared a))))
+hear_steps m (Alive n) a = heard_steps m a _ (moves_after_other (at_node (Heard m) (push (Came (Hears m)) (cleared a))))
+
 act_alive_steps : (e : Event) (a : Member) → Stepped e a (act_alive e (push (Came e) (cleared a)))
-act_alive_steps (Hears m) a = hearing m a _ (Then (Leaves (Came (Hears m)) (at_node (Heard m) (cleared a))) (moves_hear_wire m.from m.wire (at_node (Heard m) (push (Came (Hears m)) (cleared a)))))
+act_alive_steps (Hears m) a = hear_steps m m.wire a
 act_alive_steps Ticks a = quietly Ticks a _ (Then (came Ticks a) (moves_tick_once (push (Came Ticks) (cleared a))))
 act_alive_steps (Works p b) a = quietly (Works p b) a _ (Then (came (Works p b) a) (moves_work p b (push (Came (Works p b)) (cleared a))))
 act_alive_steps (Calls s r) a = quietly (Calls s r) a _ (Then (came (Calls s r) a) (moves_session s r (push (Came (Calls s r)) (cleared a))))
