@@ -1,24 +1,17 @@
 -- A UUID as a number: two UUIDs are one, or in order, as their numbers are. So a test on runs is one on numbers.
-use Rattle.std.proofs.Common.{◌≡◌, ℕ, suc, ◌+◌, ◌*◌, ◌^◌, ◌<◌, ◌≤◌, Bool, true, false, cond, ◌&&◌, List, [], ◌∷◌, length, refl, sym, ap, subst, ◌∙◌, inl, inr, arith, eqb, ltb, leb}
+use Rattle.std.proofs.Common.{◌≡◌, ℕ, suc, ◌+◌, ◌*◌, ◌^◌, ◌<◌, ◌≤◌, Bool, true, false, cond, ◌&&◌, List, [], ◌∷◌, length, refl, sym, ap, subst, ◌∙◌, inl, inr, arith, eqb, ltb, leb, Some}
 use Rattle.std.proofs.lemmas.Bool.{cases_Bool, and_parts, eqb-true, eqb-false, eq-eqb, ne_eqb, lt-ltb, le-ltb, cases_order, ltb-true, false_from_ne_true}
 use Rattle.std.proofs.lemmas.Bool.Decides.{nat_tests}
 use Rattle.std.proofs.lemmas.Cmp.{tied_itself, nat_cmp_total}
-use Rattle.std.specs.Ordering.{nat_cmp, is_lt}
-use Rattle.std.specs.Cmp.Lexicographic.{slice_cmp, same_text, nat_list_eq_equiv}
+use Rattle.std.specs.Ordering.{nat_cmp, is_lt, is_some_and, partial_lt}
+use Rattle.std.specs.Cmp.Lexicographic.{slice_cmp, slice_partial_cmp, lists_agrees, same_text, nat_list_eq_equiv}
 use Rattle.byte_forms.specs.Numbers.{number_of, are_bytes}
 use Rattle.byte_forms.proofs.NumberLemmas.{same_bytes, number_of-below}
 use Rattle.gr_ids.specs.declared.names.Gtid.{Gtid}
 use Rattle.gr_ids.specs.Names.{bytes_lt}
 use Rattle.std.specs.Str.{bytes_eq}
 use Rattle.gtid_sets.specs.Sets.{Run, in_run, before_run, covers}
-use Rattle.gtid_sets.specs.Canonical.{IsRun}
-
-pub record IsUuid (id : List ℕ) : Type 0 where
-  pub long : length id ≡ 16
-  pub bytes : are_bytes id ≡ true
-
-pub uuid_of_run : (r : Run) → IsRun r → IsUuid r.source
-uuid_of_run r h = record { long = h.long; bytes = h.bytes }
+use Rattle.gtid_sets.specs.Canonical.{IsUuid, IsRun}
 
 bytes_eq_same : (x : List ℕ) → bytes_eq x x ≡ true
 bytes_eq_same x = nat_list_eq_equiv.refl x
@@ -58,7 +51,11 @@ bytes_lt-key x y hx hy = lt_by_keys x y (hx.long ∙ sym hy.long) hx.bytes hy.by
 -- ---- tests on runs, as tests on numbers
 
 pub in_run-key : (g : Gtid) (r : Run) → IsUuid g.source → IsRun r → in_run g r ≡ (eqb (number_of r.source) (number_of g.source) && (leb r.first g.number && leb g.number r.last))
-in_run-key g r hg hr = ap (λ t. t && (leb r.first g.number && leb g.number r.last)) (bytes_eq-key r.source g.source (uuid_of_run r hr) hg)
+in_run-key g r hg hr = ap (λ t. t && (leb r.first g.number && leb g.number r.last)) (bytes_eq-key r.source g.source hr.uuid hg)
 
 pub before_run-key : (a b : Run) → IsRun a → IsRun b → before_run a b ≡ cond (eqb (number_of a.source) (number_of b.source)) (ltb (a.last + 1) b.first) (ltb (number_of a.source) (number_of b.source))
-before_run-key a b ha hb = rw (bytes_eq-key a.source b.source (uuid_of_run a ha) (uuid_of_run b hb), bytes_lt-key a.source b.source (uuid_of_run a ha) (uuid_of_run b hb)) refl
+before_run-key a b ha hb = rw (bytes_eq-key a.source b.source ha.uuid hb.uuid, bytes_lt-key a.source b.source ha.uuid hb.uuid) refl
+
+-- `<` of two arrays of bytes
+pub array_lt : (x y : List ℕ) → partial_lt (slice_partial_cmp (λ (a b : ℕ). Some (nat_cmp a b))) x y ≡ bytes_lt x y
+array_lt x y = ap (is_some_and is_lt) (lists_agrees {R = nat_cmp} (λ a b. refl) x y)

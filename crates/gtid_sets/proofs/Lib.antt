@@ -1,3 +1,5 @@
 pub mod Keys
-pub mod Adding
+pub mod RunLemmas
 pub mod Members
+pub mod Searching
+pub mod PutLemmas

@@ -7,9 +7,9 @@ use Rattle.byte_forms.proofs.NumberLemmas.{same_bytes}
 use Rattle.gr_ids.specs.declared.names.Gtid.{Gtid}
 use Rattle.std.specs.Str.{bytes_eq}
 use Rattle.gtid_sets.specs.Sets.{Run, Gtids, in_run, has, before_run}
-use Rattle.gtid_sets.specs.Canonical.{IsRun, IsBefore, IsCanonical}
-use Rattle.gtid_sets.proofs.Keys.{IsUuid, uuid_of_run, bytes_eq-key, in_run-key, before_run-key}
-use Rattle.gtid_sets.proofs.Adding.{before_head}
+use Rattle.gtid_sets.specs.Canonical.{IsUuid, IsRun, IsBefore, IsCanonical}
+use Rattle.gtid_sets.proofs.Keys.{bytes_eq-key, in_run-key, before_run-key}
+use Rattle.gtid_sets.proofs.RunLemmas.{before_head}
 
 -- whether a GTID stands behind a run, with a gap between
 abbrev pub beyond : Run → Gtid → Bool
@@ -49,14 +49,14 @@ within r q qs hr ht sub = record { begins = start; ends = end }
   where
     found : (n : ℕ) → r.first ≤ n → n ≤ r.last → (in_run (at r n) q ≡ true) ⊎ (beyond q (at r n) ≡ true)
     found n low high =
-        let inside : in_run (at r n) r ≡ true = in_run-key (at r n) r (uuid_of_run r hr) hr ∙ grind (arith, nat_tests) in
-        elim (or_cases (in_run (at r n) q) (has qs (at r n)) (sub (at r n) (uuid_of_run r hr) inside)) [
+        let inside : in_run (at r n) r ≡ true = in_run-key (at r n) r hr.uuid hr ∙ grind (arith, nat_tests) in
+        elim (or_cases (in_run (at r n) q) (has qs (at r n)) (sub (at r n) hr.uuid inside)) [
           | inl here ↦ inl here
-          | inr there ↦ inr (has_behind q qs (at r n) (uuid_of_run r hr) ht.0 ht.1 ht.2 there)
+          | inr there ↦ inr (has_behind q qs (at r n) hr.uuid ht.0 ht.1 ht.2 there)
         ]
     start : (number_of q.source < number_of r.source) ⊎ ((number_of q.source ≡ number_of r.source) × (q.first ≤ r.first))
     start = elim (found r.first (omega arith) hr.ordered) [
-      | inl here ↦ (let k = sym (in_run-key (at r r.first) q (uuid_of_run r hr) ht.0) ∙ here in inr (grind (arith, nat_tests, k), grind (arith, nat_tests, k)))
+      | inl here ↦ (let k = sym (in_run-key (at r r.first) q hr.uuid ht.0) ∙ here in inr (grind (arith, nat_tests, k), grind (arith, nat_tests, k)))
       | inr there ↦ elim (cases_order (number_of q.source) (number_of r.source)) [
         | inl e ↦ inr (e, grind (arith, nat_tests, there, ht.0.ordered))
         | inr (inl lt) ↦ inl lt
@@ -66,7 +66,7 @@ within r q qs hr ht sub = record { begins = start; ends = end }
     end : number_of q.source ≡ number_of r.source → q.first ≤ r.first → r.first ≤ q.last + 1 → r.last ≤ q.last
     end e low high = elim (cases_lt q.last r.last) [
       | inl lt ↦ elim (found (q.last + 1) (omega arith) (omega arith)) [
-        | inl here ↦ (let k = sym (in_run-key (at r (q.last + 1)) q (uuid_of_run r hr) ht.0) ∙ here in absurd (false≢true (grind (arith, nat_tests, k))))
+        | inl here ↦ (let k = sym (in_run-key (at r (q.last + 1)) q hr.uuid ht.0) ∙ here in absurd (false≢true (grind (arith, nat_tests, k))))
         | inr there ↦ absurd (false≢true (grind (arith, nat_tests, there)))
       ]
       | inr le ↦ le
@@ -78,7 +78,7 @@ same_run r q hr hq f b =
       | inl lt ↦ elim b.begins [ inl gt ↦ absurd (omega arith) | inr e ↦ absurd (omega (arith, e.0)) ]
       | inr e ↦ elim b.begins [ inl gt ↦ absurd (omega (arith, e.0)) | inr d ↦ (sym e.0, omega (arith, e.1, d.1)) ]
     ] in
-    let source : r.source ≡ q.source = same_bytes r.source q.source (hr.long ∙ sym hq.long) hr.bytes hq.bytes keys.0 in
+    let source : r.source ≡ q.source = same_bytes r.source q.source (hr.uuid.long ∙ sym hq.uuid.long) hr.uuid.bytes hq.uuid.bytes keys.0 in
     let first : r.first ≡ q.first = keys.1 in
     let up : r.last ≤ q.last = f.ends (sym keys.0) (omega (arith, first)) (omega (arith, first, hq.ordered)) in
     let down : q.last ≤ r.last = b.ends keys.0 (omega (arith, first)) (omega (arith, first, hr.ordered)) in
@@ -89,12 +89,12 @@ same_run r q hr hq f b =
     record_same r q a b c = λ i. record { source = a i; first = b i; last = c i }
 
 first_member : (r : Run) (rs : Gtids) → IsRun r → has (r ∷ rs) (at r r.first) ≡ true
-first_member r rs hr = or_left (in_run (at r r.first) r) (has rs (at r r.first)) (in_run-key (at r r.first) r (uuid_of_run r hr) hr ∙ grind (arith, nat_tests, hr.ordered))
+first_member r rs hr = or_left (in_run (at r r.first) r) (has rs (at r r.first)) (in_run-key (at r r.first) r hr.uuid hr ∙ grind (arith, nat_tests, hr.ordered))
 
 pub same_members : (s t : Gtids) → IsCanonical s → IsCanonical t → ((g : Gtid) → IsUuid g.source → has s g ≡ has t g) → s ≡ t
 same_members [] [] hs ht same = refl
-same_members [] (q ∷ qs) hs ht same = absurd (false≢true (same (at q q.first) (uuid_of_run q ht.0) ∙ first_member q qs ht.0))
-same_members (r ∷ rs) [] hs ht same = absurd (false≢true (sym (same (at r r.first) (uuid_of_run r hs.0)) ∙ first_member r rs hs.0))
+same_members [] (q ∷ qs) hs ht same = absurd (false≢true (same (at q q.first) ht.0.uuid ∙ first_member q qs ht.0))
+same_members (r ∷ rs) [] hs ht same = absurd (false≢true (sym (same (at r r.first) hs.0.uuid) ∙ first_member r rs hs.0))
 same_members (r ∷ rs) (q ∷ qs) hs ht same =
     let heads : r ≡ q = same_run r q hs.0 ht.0
         (within r q qs hs.0 ht (λ g hg h. sym (same g hg) ∙ or_left _ _ h))

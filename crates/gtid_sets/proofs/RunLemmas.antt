@@ -7,8 +7,8 @@ use Rattle.gr_ids.specs.declared.names.Gtid.{Gtid}
 use Rattle.gr_ids.specs.Names.{bytes_lt}
 use Rattle.std.specs.Str.{bytes_eq}
 use Rattle.gtid_sets.specs.Sets.{Run, Gtids, in_run, has, before_run, joined, with_run}
-use Rattle.gtid_sets.specs.Canonical.{IsRun, IsBefore, IsCanonical}
-use Rattle.gtid_sets.proofs.Keys.{IsUuid, uuid_of_run, bytes_eq-key, in_run-key, before_run-key}
+use Rattle.gtid_sets.specs.Canonical.{IsUuid, IsRun, IsBefore, IsCanonical}
+use Rattle.gtid_sets.proofs.Keys.{bytes_eq-key, in_run-key, before_run-key}
 
 -- neither stands before the other with a gap between: they are of one source, and touch or overlap
 pub record Touch (a b : Run) : Type 0 where
@@ -24,8 +24,7 @@ touch a b ha hb na nb =
 
 pub joined_run : (a b : Run) → IsRun a → IsRun b → Touch a b → IsRun (joined a b)
 joined_run a b ha hb t = record {
-  long = ha.long;
-  bytes = ha.bytes;
+  uuid = ha.uuid;
   positive = grind (arith, nat_tests, ha.positive, hb.positive);
   ordered = grind (arith, nat_tests, ha.ordered, hb.ordered);
   bounded = grind (arith, nat_tests, ha.bounded, hb.bounded);
@@ -89,3 +88,14 @@ canonical_with_run (r ∷ rs) a hs ha = by_tests (canonical_with_run rs a hs.2 h
     by_tests later over true q ep eq = (ha, sym ep, hs)
     by_tests later over false true ep eq = (hs.0, before_with_run r rs a hs.0 hs.1 hs.2 (sym eq) ha, later)
     by_tests later over false false ep eq = over (touch a r ha hs.0 (sym ep) (sym eq))
+
+-- ---- the three cases
+
+pub with_run-before : (r : Run) (rs : Gtids) (a : Run) → before_run a r ≡ true → with_run (r ∷ rs) a ≡ a ∷ r ∷ rs
+with_run-before r rs a h = rw (with_run, h) refl
+
+pub with_run-after : (r : Run) (rs : Gtids) (a : Run) → before_run a r ≡ false → before_run r a ≡ true → with_run (r ∷ rs) a ≡ r ∷ with_run rs a
+with_run-after r rs a h k = rw (with_run, h, k) refl
+
+pub with_run-touch : (r : Run) (rs : Gtids) (a : Run) → before_run a r ≡ false → before_run r a ≡ false → with_run (r ∷ rs) a ≡ with_run rs (joined a r)
+with_run-touch r rs a h k = rw (with_run, h, k) refl
