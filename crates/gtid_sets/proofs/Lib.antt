@@ -3,3 +3,4 @@ pub mod RunLemmas
 pub mod Members
 pub mod Searching
 pub mod PutLemmas
+pub mod PartLemmas
