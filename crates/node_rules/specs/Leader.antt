@@ -52,9 +52,13 @@ higher None y = y
 higher (Some x) None = Some x
 higher (Some x) (Some y) = if ballot_lt x.ballot y.ballot then Some y else Some x
 
+-- a promiser outside the configuration doesn't count
+abbrev pub better : List Inc → ℕ → Option Vote → Promised → Option Vote
+better c t x p = if has_inc c p.inc then higher x (vote_at p.votes t) else x
+
 -- the vote at the highest ballot for the slot, of those that promisers in this configuration reported
 abbrev pub best : List Inc → List Promised → ℕ → Option Vote
-best c ps t = fold (λ x p. if has_inc c p.inc then higher x (vote_at p.votes t) else x) None ps
+best c ps t = fold (better c t) None ps
 
 abbrev pub reported_above : List Promised → ℕ → Bool
 reported_above ps t = list_any (λ p. list_any (λ x. nat_lt t x.slot) p.votes) ps
@@ -95,6 +99,7 @@ free_slot is_done l (suc k) t = if is_done t || is_some (proposal_at l t) then f
 abbrev pub may_propose : Option Turns → Leader → ℕ → Bool
 may_propose w l t = (is_some (config_by w t) && nat_le t (2 ^ 42)) && ((l.ballot.round == 1) || majority (config_here w t) (has_promise l.promises))
 
+-- it has no number, and is never kept
 abbrev pub noop : Inc → Value
 noop me = record { id = record { origin = me; number = 0 }; what = Noop }
 
@@ -109,17 +114,17 @@ first_offer t [] = None
 first_offer t (v ∷ vs) = Some (record { slot = t; value = v; offers = vs })
 
 -- the value of the highest vote reported; else a Noop below something later; else the first offer
-abbrev pub choice_by : Inc → Bool → Leader → ℕ → Option Vote → Option Choice
-choice_by me later l t (Some x) = Some (record { slot = t; value = x.value; offers = l.offers })
-choice_by me later l t None = if later then Some (record { slot = t; value = noop me; offers = l.offers }) else first_offer t l.offers
+abbrev pub choice_by : Bool → Leader → ℕ → Option Vote → Option Choice
+choice_by later l t (Some x) = Some (record { slot = t; value = x.value; offers = l.offers })
+choice_by later l t None = if later then Some (record { slot = t; value = noop l.ballot.inc; offers = l.offers }) else first_offer t l.offers
 
-abbrev pub choice_at : Inc → (ℕ → Bool) → Option Turns → Leader → Option ℕ → Option Choice
-choice_at me is_done_above w l None = None
-choice_at me is_done_above w l (Some t) = if may_propose w l t then choice_by me (reported_above l.promises t || is_done_above t) l t (best (config_here w t) l.promises t) else None
+abbrev pub choice_at : (ℕ → Bool) → Option Turns → Leader → Option ℕ → Option Choice
+choice_at is_done_above w l None = None
+choice_at is_done_above w l (Some t) = if may_propose w l t then choice_by (reported_above l.promises t || is_done_above t) l t (best (config_here w t) l.promises t) else None
 
 -- what this leader proposes next, in one of these many slots from t on
-abbrev pub choice : Inc → (ℕ → Bool) → (ℕ → Bool) → Option Turns → Leader → ℕ → ℕ → Option Choice
-choice me is_done is_done_above w l k t = choice_at me is_done_above w l (free_slot is_done l k t)
+abbrev pub choice : (ℕ → Bool) → (ℕ → Bool) → Option Turns → Leader → ℕ → ℕ → Option Choice
+choice is_done is_done_above w l k t = choice_at is_done_above w l (free_slot is_done l k t)
 
 abbrev pub proposing : Leader → Choice → Leader
 proposing l c = record l { proposals = put_slot (λ p. p.slot) l.proposals (record { slot = c.slot; value = c.value; accepted = [] }); offers = c.offers }

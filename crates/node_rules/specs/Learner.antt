@@ -1,7 +1,9 @@
 -- The learner: which slots are decided here, and which of them were handed out.
 -- (Lamport, "Paxos Made Simple", sections 2.3 and 3: chosen values are learnt in any order, and executed in the order of their slots.)
-use Rattle.std.specs.Prelude.{ℕ, Bool, ◌+◌, ◌||◌, List, [], Option, None, map, length, nat_lt, ◌==◌, if◌then◌else◌, is_some}
-use Rattle.node_rules.specs.Names.{Value}
+use Rattle.std.specs.Prelude.{ℕ, Bool, false, ◌+◌, ◌&&◌, ◌||◌, List, [], Option, None, map, length, nat_lt, nat_le, ◌==◌, if◌then◌else◌, is_some}
+use Rattle.std.specs.List.{list_any}
+use Rattle.gr_ids.specs.Names.{inc_eq}
+use Rattle.node_rules.specs.Names.{Inc, Value, What, Remove}
 use Rattle.node_rules.specs.Slots.{Entry, entry_at, put_slot, from_slot, first_empty}
 
 -- The decided slots whose values are kept, ascending; the least slot that wasn't handed out; the least undecided slot.
@@ -43,6 +45,14 @@ pass l = record l { slot = l.slot + 1 }
 -- the decided slots that weren't handed out
 abbrev pub waiting : Learner → List ℕ
 waiting l = map (λ e. e.slot) (from_slot (λ e. e.slot) l.decided l.slot)
+
+-- a slot that wasn't handed out is decided with a Remove of the incarnation
+abbrev pub removes : Inc → What → Bool
+removes i (Remove j) = inc_eq j i
+removes i _ = false
+
+abbrev pub learnt_remove : Learner → Inc → Bool
+learnt_remove l i = list_any (λ e. nat_le l.slot e.slot && removes i e.value.what) l.decided
 
 -- the values of slots below k are forgotten
 abbrev pub forget_decided : ℕ → Learner → Learner

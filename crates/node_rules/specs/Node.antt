@@ -1,7 +1,7 @@
 -- One node of the ordering: acceptor, learner and perhaps leader, and what it knows of the log that it takes.
 -- (Multi-Paxos; Lamport, "Paxos Made Simple". Membership is changed by values of the log itself, behind a horizon:
 -- Lamport, Malkhi, Zhou, "Reconfiguring a State Machine".)
-use Rattle.std.specs.Prelude.{ℕ, Option, Some, None, List, [], ◌∷◌, ◌++◌, map, if◌then◌else◌}
+use Rattle.std.specs.Prelude.{ℕ, Option, Some, None, List, [], ◌∷◌, ◌++◌, map, ◌==◌, if◌then◌else◌}
 use Rattle.node_rules.specs.Names.{Inc, Ballot, Value, Vote, Message, Wire}
 use Rattle.gr_ids.specs.Names.{inc_eq, no_ballot}
 use Rattle.slot_values.specs.Log.{Group, Turns, first_turns}
@@ -9,6 +9,7 @@ use Rattle.node_rules.specs.Lists.{others}
 use Rattle.node_rules.specs.Slots.{Entry}
 use Rattle.node_rules.specs.Acceptor.{Acceptor}
 use Rattle.node_rules.specs.Learner.{Learner, new_learner}
+use Rattle.node_rules.specs.Known.{config_by}
 use Rattle.node_rules.specs.Leader.{Leader, new_leader}
 
 -- what another member has told of its slots: it has decided all below this one
@@ -85,3 +86,17 @@ to_others n is x = map (λ i. message n i x) (others n.me is)
 
 abbrev pub leads : Node → Leader → Node
 leads n l = record n { leader = Some l }
+
+-- ---- what a node answers
+
+-- what it has promised; a joiner may have promised nothing
+abbrev pub promised : Node → Option Ballot
+promised n = if n.acceptor.promise.round == 0 then None else Some n.acceptor.promise
+
+-- the configuration of a slot, where it is known and not forgotten
+abbrev pub node_config : Node → ℕ → Option (List Inc)
+node_config n t = config_by n.turns t
+
+-- the first slot that isn't forgotten
+abbrev pub kept_from : Node → ℕ
+kept_from n = n.acceptor.low

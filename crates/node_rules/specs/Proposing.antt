@@ -36,7 +36,7 @@ propose_choice n l (Some c) = proposes n l c
 
 abbrev pub lead_propose : Node → Option Leader → Effect
 lead_propose n None = quiet n
-lead_propose n (Some l) = propose_choice n l (choice n.me (is_decided n.learner) (decided_above n.learner) n.turns l n.horizon n.learner.next)
+lead_propose n (Some l) = propose_choice n l (choice (is_decided n.learner) (decided_above n.learner) n.turns l n.horizon n.learner.next)
 
 unfoldable pub propose_one : Node → Effect
 propose_one n = lead_propose n n.leader

@@ -1,0 +1,15 @@
+mod Order
+mod Lists
+mod Agree
+mod Inv
+mod Votes
+mod Acts
+mod Leads
+mod Proposes
+mod Logs
+mod Takes
+mod Steps
+mod Runs
+mod Keeps
+mod Taken
+mod Made

@@ -1,0 +1,15 @@
+-- The names of the types that the laws speak of, passed on. The variant `Welcome` of a message is called Greet here, beside the record Welcome.
+pub use Rattle.gr_ids.specs.declared.names.Inc.{Inc}
+pub use Rattle.gr_ids.specs.declared.names.Ballot.{Ballot}
+pub use Rattle.gr_ids.specs.declared.names.ValueId.{ValueId}
+pub use Rattle.slot_values.specs.declared.value.Joiner.{Joiner}
+pub use Rattle.slot_values.specs.declared.value.What.{What}
+pub use Rattle.slot_values.specs.declared.value.What.TheVariants.{Noop, Add, Remove, Body}
+pub use Rattle.slot_values.specs.declared.value.Value.{Value}
+pub use Rattle.slot_values.specs.declared.value.Vote.{Vote}
+pub use Rattle.paxos_forms.specs.declared.message.Message.{Message}
+pub use Rattle.paxos_forms.specs.declared.message.Wire.{Wire}
+pub use Rattle.paxos_forms.specs.declared.message.Wire.TheVariants.{Prepare, Promise, Accept, Accepted, Learn, Offer, Ask, Give, Alive, Gone}
+pub use Rattle.paxos_forms.specs.declared.message.Wire.TheVariants.{Welcome as Greet}
+pub use Rattle.paxos_forms.specs.declared.welcome.Welcome.{Welcome}
+pub use Rattle.paxos_forms.specs.declared.welcome.WelcomeMember.{WelcomeMember}

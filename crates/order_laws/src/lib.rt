@@ -1,0 +1,30 @@
+//! The laws of the order: what holds of every run of a world of nodes, whatever is lost, repeated, reordered, stopped and started.
+#![tactic(auto)]
+
+ghost use Rattle.order_laws.specs.Laws.{InEveryRun, AtMostOneChosen, OneLog, TakenAlike, Follows, Consecutive, MadeBefore};
+
+/// In each slot at most one value is chosen, over every change of the members: a majority of the slot's configuration voted
+/// for it at one ballot. A vote that was cast and forgotten counts, and so does one of a node that stopped.
+/// (Lamport, "Paxos Made Simple"; Lamport, Malkhi, Zhou, "Reconfiguring a State Machine".)
+pub fn one_value_in_each_slot()
+    ensures chosen { InEveryRun AtMostOneChosen }
+    ensures log { InEveryRun OneLog }
+{}
+
+/// Members take parts of one list: no two incarnations differ in the value of a slot that they took, and the kept list, the
+/// members and the configurations that each knows are those of one log of chosen values.
+pub fn one_list()
+    ensures taken { InEveryRun TakenAlike }
+    ensures follows { InEveryRun Follows }
+{}
+
+/// Each incarnation takes consecutive slots: a founder from slot 1, a joiner from just after the slot of its own Add, which
+/// took effect there.
+pub fn consecutive_slots()
+    ensures { InEveryRun Consecutive }
+{}
+
+/// Each value that is taken was made before by its origin, but for a Noop.
+pub fn no_value_invented()
+    ensures { InEveryRun MadeBefore }
+{}
