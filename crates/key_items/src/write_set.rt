@@ -1,5 +1,7 @@
 // The set of the items that a transaction writes.
 ghost use Rattle.std.specs.Prelude.{◌≡◌, ◌≤◌, not, IfOk, MatchOption, OnErr, OnOk, Some, [], length, slice_get};
+ghost use Rattle.std.specs.Iterator.Adapters.{IterYieldsInOrder};
+ghost use Rattle.std.specs.Slice.Iter.{iter_rest};
 ghost use Rattle.gr_ids.specs.declared.memory.Memory.{Memory};
 ghost use Rattle.key_items.specs.Items.{Ascend, has_item, share, with_item};
 
@@ -107,7 +109,10 @@ impl WriteSet {
     }
 
     /// The items, ascending.
-    pub fn iter(&self) -> Iter<'_, Item> {
+    pub fn iter(&self) -> Iter<'_, Item>
+        ensures rest { iter_rest result ≡ self.now }
+        ensures runs { IterYieldsInOrder Item }
+    {
         self.items.iter()
     }
 
