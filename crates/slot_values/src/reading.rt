@@ -1,5 +1,5 @@
 // Reading the log on by one value: who is a member then, who ever was one, and who was removed.
-ghost use Rattle.std.specs.Prelude.{◌≡◌, ◌+◌, ◌<◌, ◌^◌, ◌&&◌, ℕ, List, not, IfOk, OnErr, OnOk, unwrap_or};
+ghost use Rattle.std.specs.Prelude.{◌≡◌, ◌+◌, ◌<◌, ◌^◌, ◌&&◌, ℕ, List, not, IfOk, OnErr, OnOk, false, unwrap_or};
 ghost use Rattle.std.specs.List.{prefix_len};
 ghost use Rattle.gr_ids.specs.Names.{has_inc, inc_eq, inc_lt};
 ghost use Rattle.gr_ids.specs.declared.memory.Memory.{Memory};
@@ -11,6 +11,9 @@ use crate::member::Member;
 use crate::value::{Value, What};
 use gr_ids::{Inc, Memory};
 use std::alloc::Global;
+
+/// As many members as a group may have (MySQL 8.0 Reference Manual, Group Replication Limitations).
+const MOST_MEMBERS: usize = 9;
 
 fn is_before(i: Inc, j: Inc) -> bool
     ensures { result ≡ inc_lt i j }
@@ -42,4 +45,102 @@ fn is_next_number(members: &[Member], inc: Inc, number: u64) -> bool
     members
         .iter()
         .any(|m| m.inc == inc && number > 0 && m.last == number - 1)
+}
+
+/// Whether the value is kept. Linear in the members.
+pub(crate) fn is_kept_now(members: &[Member], value: &Value) -> bool
+    ensures { result ≡ (not (is_noop value.now.what) && is_next members.now value.now.id.origin value.now.id.number) }
+{
+    let is_noop = match value.what {
+        What::Noop => true,
+        _ => false,
+    };
+    !is_noop && is_next_number(members, value.id.origin, value.id.number)
+}
+
+/// Whether the value, once kept, takes effect. Linear in the members and in those that ever were.
+pub(crate) fn takes_effect(members: &[Member], ever: &[Inc], what: &What) -> bool
+    ensures { (place : ℕ) (former : List Member) → result ≡ has_effect (record { place = place; members = members.now; ever = ever.now; former = former }) what.now }
+{
+    match what {
+        What::Add(joiner) => {
+            members.len() < MOST_MEMBERS
+                && !server_is_taken(members, joiner.inc.server)
+                && !has(ever, joiner.inc)
+        }
+        What::Remove(inc) => has_member(members, *inc) && members.len() > 1,
+        _ => true,
+    }
+}
+
+/// The members as a configuration has them.
+pub(crate) fn incs_of(alloc: Global, members: &[Member]) -> Result<Vec<Inc>, Memory>
+    ensures { IfOk result (λ v. v.items ≡ incs members.now) }
+{
+    Ok(members.iter().map(|m| m.inc).collect(alloc)?)
+}
+
+fn without_member(alloc: Global, members: &[Member], inc: Inc) -> Result<Vec<Member>, Memory>
+    ensures { IfOk result (λ v. v.items ≡ without members.now inc) }
+{
+    Ok(members
+        .iter()
+        .copied()
+        .filter(|m| m.inc != inc)
+        .collect(alloc)?)
+}
+
+fn counted_members(alloc: Global, members: &[Member], inc: Inc, number: u64) -> Result<Vec<Member>, Memory>
+    ensures { IfOk result (λ v. v.items ≡ counted members.now inc number) }
+{
+    Ok(members
+        .iter()
+        .map(|m| Member {
+            inc: m.inc,
+            last: if m.inc == inc { number } else { m.last },
+        })
+        .collect(alloc)?)
+}
+
+// The first place whose member isn't before the incarnation.
+fn member_place(members: &[Member], inc: Inc) -> usize
+    ensures { result ≡ prefix_len (λ m. not (inc_lt inc m.inc)) members.now }
+{
+    for (k, m) in members.iter().enumerate() {
+        if is_before(inc, m.inc) {
+            return k;
+        }
+    }
+    members.len()
+}
+
+fn add_member(members: &mut Vec<Member>, inc: Inc) -> Result<(), Memory>
+    ensures ok { OnOk result (members.new.items ≡ with_member members.old.items inc) }
+    ensures err { OnErr result (members.new.items ≡ members.old.items) }
+{
+    let at = member_place(members, inc);
+    members.insert(at, Member { inc, last: 0 })?;
+    Ok(())
+}
+
+// The first place whose incarnation isn't before the given one.
+fn inc_place(incs: &[Inc], inc: Inc) -> usize
+    ensures { result ≡ prefix_len (λ i. not (inc_lt inc i)) incs.now }
+{
+    for (k, i) in incs.iter().enumerate() {
+        if is_before(inc, *i) {
+            return k;
+        }
+    }
+    incs.len()
+}
+
+fn add_inc(incs: &mut Vec<Inc>, inc: Inc) -> Result<(), Memory>
+    requires { has_inc incs.old.items inc ≡ false }
+    ensures ok { OnOk result (incs.new.items ≡ with_inc incs.old.items inc) }
+    ensures err { OnErr result (incs.new.items ≡ incs.old.items) }
+{
+    let at = inc_place(incs, inc);
+    incs.insert(at, inc)?;
+    Ok(())
 }
