@@ -4,10 +4,12 @@
 mod kept;
 mod member;
 mod reading;
+mod turns;
 mod turns_at;
 mod value;
 
 pub use kept::Kept;
 pub use member::Member;
+pub use turns::Turns;
 pub use turns_at::TurnsAt;
 pub use value::{Joiner, Value, Vote, What};

@@ -1,15 +1,16 @@
 // Reading the log on by one value: who is a member then, who ever was one, and who was removed.
-ghost use Rattle.std.specs.Prelude.{◌≡◌, ◌+◌, ◌<◌, ◌^◌, ◌&&◌, ℕ, List, not, IfOk, OnErr, OnOk, false, unwrap_or};
+ghost use Rattle.std.specs.Prelude.{◌≡◌, ◌+◌, ◌<◌, ◌≤◌, ◌^◌, ◌&&◌, ℕ, List, not, IfOk, filter, OnErr, OnOk, false};
 ghost use Rattle.std.specs.List.{prefix_len};
 ghost use Rattle.gr_ids.specs.Names.{has_inc, inc_eq, inc_lt};
 ghost use Rattle.gr_ids.specs.declared.memory.Memory.{Memory};
 ghost use Rattle.gr_ids.specs.declared.names.Inc.{Inc};
-ghost use Rattle.slot_values.specs.Log.{Reading, Member, counted, has_effect, has_server, incs, is_member, is_next, read, with_inc, with_member, without};
+ghost use Rattle.slot_values.specs.Log.{Reading, Member, became, counted, has_effect, has_server, incs, is_member, is_next, read, with_inc, with_member, without};
 ghost use Rattle.slot_values.specs.Values.{is_noop};
 
+use crate::kept::Kept;
 use crate::member::Member;
 use crate::value::{Value, What};
-use gr_ids::{Inc, Memory};
+use gr_ids::{Inc, Memory, Pos};
 use std::alloc::Global;
 
 /// As many members as a group may have (MySQL 8.0 Reference Manual, Group Replication Limitations).
@@ -90,6 +91,16 @@ fn without_member(alloc: Global, members: &[Member], inc: Inc) -> Result<Vec<Mem
         .collect(alloc)?)
 }
 
+fn removed_member(alloc: Global, members: &[Member], inc: Inc) -> Result<Vec<Member>, Memory>
+    ensures { IfOk result (λ v. v.items ≡ filter (λ m. inc_eq m.inc inc) members.now) }
+{
+    Ok(members
+        .iter()
+        .copied()
+        .filter(|m| m.inc == inc)
+        .collect(alloc)?)
+}
+
 fn counted_members(alloc: Global, members: &[Member], inc: Inc, number: u64) -> Result<Vec<Member>, Memory>
     ensures { IfOk result (λ v. v.items ≡ counted members.now inc number) }
 {
@@ -143,4 +154,87 @@ fn add_inc(incs: &mut Vec<Inc>, inc: Inc) -> Result<(), Memory>
     let at = inc_place(incs, inc);
     incs.insert(at, inc)?;
     Ok(())
+}
+
+/// The members after the value is taken. Linear in the members and in those that ever were.
+#[tactic(auto, unfolding(crate::specs::Log::read))]
+pub(crate) fn members_after(
+    alloc: Global,
+    members: &[Member],
+    ever: &[Inc],
+    value: &Value,
+) -> Result<Vec<Member>, Memory>
+    ensures { (place : ℕ) (former : List Member) → IfOk result (λ v. v.items ≡ (read (record { place = place; members = members.now; ever = ever.now; former = former }) value.now).members) }
+{
+    if !is_kept_now(members, value) {
+        return Ok(members.to_vec(alloc)?);
+    }
+    let mut next = counted_members(alloc, members, value.id.origin, value.id.number)?;
+    if !takes_effect(members, ever, &value.what) {
+        return Ok(next);
+    }
+    match &value.what {
+        What::Add(joiner) => {
+            add_member(&mut next, joiner.inc)?;
+            Ok(next)
+        }
+        What::Remove(inc) => without_member(alloc, &next, *inc),
+        _ => Ok(next),
+    }
+}
+
+/// The number of kept values after the value is taken. Linear in the members.
+#[tactic(auto, unfolding(crate::specs::Log::read))]
+pub(crate) fn place_after(place: u64, members: &[Member], value: &Value) -> u64
+    requires { place < 2 ^ 42 }
+    ensures place { (ever : List Inc) (former : List Member) → result ≡ (read (record { place = place; members = members.now; ever = ever; former = former }) value.now).place }
+    ensures most { result ≤ place + 1 }
+{
+    if is_kept_now(members, value) {
+        place + 1
+    } else {
+        place
+    }
+}
+
+/// What the value becomes. Linear in the members and in those that ever were.
+pub(crate) fn kept_as(place: u64, members: &[Member], ever: &[Inc], value: &Value) -> Kept
+    requires { place < 2 ^ 42 }
+    ensures { (former : List Member) → result ≡ became (record { place = place; members = members.now; ever = ever.now; former = former }) value.now }
+{
+    if is_kept_now(members, value) {
+        Kept::At(Pos(place + 1), takes_effect(members, ever, &value.what))
+    } else {
+        Kept::Skipped
+    }
+}
+
+/// Puts the one that the value adds among those that ever were members, or the one that it removes before those that
+/// were removed. Linear in these and in the members.
+#[tactic(auto, unfolding(crate::specs::Log::read))]
+pub(crate) fn remember(
+    alloc: Global,
+    members: &[Member],
+    ever: &mut Vec<Inc>,
+    former: &mut Vec<Member>,
+    value: &Value,
+) -> Result<(), Memory>
+    ensures ever { (place : ℕ) → OnOk result (ever.new.items ≡ (read (record { place = place; members = members.now; ever = ever.old.items; former = former.old.items }) value.now).ever) }
+    ensures former { (place : ℕ) → OnOk result (former.new.items ≡ (read (record { place = place; members = members.now; ever = ever.old.items; former = former.old.items }) value.now).former) }
+    ensures err { OnErr result ((ever.new.items ≡ ever.old.items) × (former.new.items ≡ former.old.items)) }
+{
+    if !is_kept_now(members, value) || !takes_effect(members, ever, &value.what) {
+        return Ok(());
+    }
+    match &value.what {
+        What::Add(joiner) => add_inc(ever, joiner.inc),
+        What::Remove(inc) => {
+            let counted = counted_members(alloc, members, value.id.origin, value.id.number)?;
+            let mut next = removed_member(alloc, &counted, *inc)?;
+            next.extend_from_slice(former)?;
+            *former = next;
+            Ok(())
+        }
+        _ => Ok(()),
+    }
 }
