@@ -84,33 +84,44 @@ pub(crate) fn incs_of(alloc: Global, members: &[Member]) -> Result<Vec<Inc>, Mem
 fn without_member(alloc: Global, members: &[Member], inc: Inc) -> Result<Vec<Member>, Memory>
     ensures { IfOk result (λ v. v.items ≡ without members.now inc) }
 {
-    Ok(members
-        .iter()
-        .copied()
-        .filter(|m| m.inc != inc)
-        .collect(alloc)?)
+    Ok(
+        members
+            .iter()
+            .copied()
+            .filter(|m| m.inc != inc)
+            .collect(alloc)?,
+    )
 }
 
 fn removed_member(alloc: Global, members: &[Member], inc: Inc) -> Result<Vec<Member>, Memory>
     ensures { IfOk result (λ v. v.items ≡ filter (λ m. inc_eq m.inc inc) members.now) }
 {
-    Ok(members
-        .iter()
-        .copied()
-        .filter(|m| m.inc == inc)
-        .collect(alloc)?)
+    Ok(
+        members
+            .iter()
+            .copied()
+            .filter(|m| m.inc == inc)
+            .collect(alloc)?,
+    )
 }
 
-fn counted_members(alloc: Global, members: &[Member], inc: Inc, number: u64) -> Result<Vec<Member>, Memory>
+fn counted_members(
+    alloc: Global,
+    members: &[Member],
+    inc: Inc,
+    number: u64,
+) -> Result<Vec<Member>, Memory>
     ensures { IfOk result (λ v. v.items ≡ counted members.now inc number) }
 {
-    Ok(members
-        .iter()
-        .map(|m| Member {
-            inc: m.inc,
-            last: if m.inc == inc { number } else { m.last },
-        })
-        .collect(alloc)?)
+    Ok(
+        members
+            .iter()
+            .map(|m| Member {
+                inc: m.inc,
+                last: if m.inc == inc { number } else { m.last },
+            })
+            .collect(alloc)?,
+    )
 }
 
 // The first place whose member isn't before the incarnation.

@@ -1,5 +1,5 @@
 // The kept list's state, one slot taken after another.
-ghost use Rattle.std.specs.Prelude.{◌≡◌, ◌+◌, ◌-◌, ◌<◌, ◌≤◌, ◌^◌, IfOk, MatchOption, None, OnErr, OnOk, Some, find, length, option_map, slice_get};
+ghost use Rattle.std.specs.Prelude.{◌≡◌, ◌+◌, ◌-◌, ◌<◌, ◌≤◌, ◌^◌, IfOk, MatchOption, None, OnErr, OnOk, Some, find, length, map, option_map, replicate, slice_get};
 ghost use Rattle.gr_ids.specs.Names.{inc_eq};
 ghost use Rattle.gr_ids.specs.declared.memory.Memory.{Memory};
 ghost use Rattle.slot_values.specs.Log.{Group, became, config_of, first_turns, forget_configs, incs, last_of, turn, turns_at, turns_from};
@@ -9,7 +9,7 @@ use crate::member::Member;
 use crate::reading::{incs_of, kept_as, members_after, place_after, remember};
 use crate::turns_at::TurnsAt;
 use crate::value::Value;
-use gr_ids::{Inc, Memory, Sequence};
+use gr_ids::{Inc, Memory, Pos, Sequence};
 use std::alloc::Global;
 use std::marker::Model;
 
@@ -40,6 +40,57 @@ impl Model for Turns {
 }
 
 impl Turns {
+    /// The state before slot 1. The founders are 1 to 9 incarnations of distinct servers, ascending, and the horizon is 10 to 200.
+    /// Linear in the founders times the horizon.
+    pub fn new(alloc: Global, founders: &[Inc], horizon: u16) -> Result<Turns, Memory>
+        requires { 0 < horizon }
+        ensures { IfOk result (λ w. w ≡ first_turns (record { founders = founders.now; horizon = horizon })) }
+    {
+        Ok(Turns {
+            slot: 0,
+            place: 0,
+            members: unkept(alloc, founders)?,
+            ever: founders.to_vec(alloc)?,
+            former: Vec::new(alloc),
+            base: 0,
+            low: 0,
+            configs: repeated(alloc, founders, horizon)?,
+        })
+    }
+
+    /// The state as a joiner was told it, with as many configurations as the horizon. The removed members aren't known.
+    /// Takes constant time.
+    pub fn resume(alloc: Global, at: TurnsAt) -> Result<Turns, Memory>
+        requires places { at.place ≤ at.slot }
+        requires latest { slice_get at.configs (length at.configs - 1) ≡ Some (incs at.last) }
+        ensures { IfOk result (λ w. w ≡ turns_from at) }
+    {
+        Ok(Turns {
+            slot: at.slot,
+            place: at.place.0,
+            members: at.last.into_vec(),
+            ever: at.ever.into_vec(),
+            former: Vec::new(alloc),
+            base: at.slot,
+            low: 0,
+            configs: at.configs.into_vec(),
+        })
+    }
+
+    /// What a joiner that was added in the last slot is told. Linear in it.
+    pub fn at(&self, alloc: Global) -> Result<TurnsAt, Memory>
+        ensures { IfOk result (λ x. x ≡ turns_at self.now) }
+    {
+        let read = (self.slot - self.base) as usize;
+        Ok(TurnsAt {
+            slot: self.slot,
+            place: Pos(self.place),
+            last: Sequence::from_vec(self.members.to_vec(alloc)?),
+            ever: Sequence::from_vec(self.ever.to_vec(alloc)?),
+            configs: Sequence::from_vec(copied(alloc, &self.configs[read..])?),
+        })
+    }
+
     /// Takes the value of the next slot, and says what it becomes. Linear in the members and in the incarnations that ever were members.
     #[tactic(auto, unfolding(crate::specs::Log::turn))]
     pub fn take(&mut self, alloc: Global, value: &Value) -> Result<Kept, Memory>
@@ -53,7 +104,13 @@ impl Turns {
         let members = members_after(alloc, &self.members, &self.ever, value)?;
         let config = Sequence::from_vec(incs_of(alloc, &members)?);
         self.configs.reserve(1)?;
-        remember(alloc, &self.members, &mut self.ever, &mut self.former, value)?;
+        remember(
+            alloc,
+            &self.members,
+            &mut self.ever,
+            &mut self.former,
+            value,
+        )?;
         self.configs.push_reserved(config);
         self.members = members;
         self.place = place;
@@ -120,4 +177,35 @@ fn last_among(members: &[Member], inc: Inc) -> Option<u64>
     ensures { result ≡ option_map (λ m. m.last) (find (λ m. inc_eq m.inc inc) members.now) }
 {
     members.iter().find(|m| m.inc == inc).map(|m| m.last)
+}
+
+// Members of whom no value was kept.
+fn unkept(alloc: Global, incs: &[Inc]) -> Result<Vec<Member>, Memory>
+    ensures { IfOk result (λ v. v.items ≡ map (λ i. record { inc = i; last = 0 }) incs.now) }
+{
+    Ok(
+        incs.iter()
+            .map(|inc| Member { inc: *inc, last: 0 })
+            .collect(alloc)?,
+    )
+}
+
+fn repeated(alloc: Global, config: &[Inc], count: u16) -> Result<Vec<Sequence<Inc>>, Memory>
+    ensures { IfOk result (λ v. v.items ≡ replicate count config.now) }
+{
+    let mut configs = Vec::new(alloc);
+    for _ in 0..count {
+        configs.push(Sequence::from_vec(config.to_vec(alloc)?))?;
+    }
+    Ok(configs)
+}
+
+fn copied(alloc: Global, configs: &[Sequence<Inc>]) -> Result<Vec<Sequence<Inc>>, Memory>
+    ensures { IfOk result (λ v. v.items ≡ configs.now) }
+{
+    let mut copies = Vec::new(alloc);
+    for config in configs {
+        copies.push(Sequence::from_vec(config.as_slice().to_vec(alloc)?))?;
+    }
+    Ok(copies)
 }
