@@ -1,0 +1,9 @@
+pub mod FirstRows
+pub mod OrderRows
+pub mod QueueRows
+pub mod GroupRows
+pub mod JoinRows
+pub mod RejoinRows
+pub mod TenthRows
+pub mod CertRows
+pub mod PartRows
