@@ -7,10 +7,14 @@ use Rattle.gtid_sets.specs.Sets.{Run, Gtids, before_run}
 abbrev pub last_number : ℕ
 last_number = 9223372036854775806
 
+-- sixteen bytes
+pub record IsUuid (id : List ℕ) : Type 0 where
+  pub long : length id ≡ 16
+  pub bytes : are_bytes id ≡ true
+
 -- some numbers of one source
 pub record IsRun (r : Run) : Type 0 where
-  pub long : length r.source ≡ 16
-  pub bytes : are_bytes r.source ≡ true
+  pub uuid : IsUuid r.source
   pub positive : 1 ≤ r.first
   pub ordered : r.first ≤ r.last
   pub bounded : r.last ≤ last_number
@@ -23,3 +27,7 @@ IsBefore r (s ∷ rs) = before_run r s ≡ true
 abbrev pub IsCanonical : Gtids → Type 0
 IsCanonical [] = Unit {0}
 IsCanonical (r ∷ rs) = IsRun r × IsBefore r rs × IsCanonical rs
+
+-- a UUID and a number from 1 to 2 ^ 63 - 2 (the UUID's sixteen bytes are in its type)
+abbrev pub IsNumber : ℕ → Type 0
+IsNumber n = (1 ≤ n) × (n ≤ last_number)

@@ -27,8 +27,11 @@ abbrev pub with_run : Gtids → Run → Gtids
 with_run [] a = a ∷ []
 with_run (r ∷ rs) a = elim (before_run a r) [ true ↦ a ∷ r ∷ rs | false ↦ elim (before_run r a) [ true ↦ r ∷ with_run rs a | false ↦ with_run rs (joined a r) ] ]
 
+abbrev pub single : Gtid → Run
+single g = record { source = g.source; first = g.number; last = g.number }
+
 abbrev pub with_gtid : Gtids → Gtid → Gtids
-with_gtid s g = with_run s (record { source = g.source; first = g.number; last = g.number })
+with_gtid s g = with_run s (single g)
 
 -- what either has
 abbrev pub union : Gtids → Gtids → Gtids

@@ -1,7 +1,10 @@
 //! Sets of global transaction identifiers.
 #![tactic(auto)]
 
+mod adding;
+mod fits;
 mod run;
+mod search;
 mod set;
 mod told;
 

@@ -1,5 +1,8 @@
 // A set of GTIDs as its longest runs.
+use crate::adding::put_gtid;
 use crate::run::Run;
+use crate::search::runs_before;
+use gr_ids::{Gtid, Memory};
 use std::alloc::Global;
 use std::marker::Model;
 
@@ -24,8 +27,9 @@ impl Model for GtidSet {
 }
 
 impl GtidSet {
-    ghost use Rattle.std.specs.Prelude.{◌≡◌, ◌↔◌, [], IsTrue};
-    ghost use Rattle.gtid_sets.specs.Canonical.{IsCanonical};
+    ghost use Rattle.std.specs.Prelude.{◌≡◌, ◌↔◌, [], IsTrue, OnOk, OnErr};
+    ghost use Rattle.gtid_sets.specs.Sets.{has, with_gtid};
+    ghost use Rattle.gtid_sets.specs.Canonical.{IsCanonical, IsNumber};
 
     /// The empty set; takes no memory.
     pub fn new(alloc: Global) -> Self
@@ -49,5 +53,25 @@ impl GtidSet {
         ensures { IsTrue result ↔ (self.now ≡ []) }
     {
         self.runs.is_empty()
+    }
+
+    /// Whether it has the GTID. Logarithmic in the runs; takes no memory.
+    pub fn contains(&self, gtid: Gtid) -> bool
+        ensures { result ≡ has self.now gtid }
+    {
+        let at = runs_before(&self.runs, gtid);
+        if at == self.runs.len() {
+            return false;
+        }
+        self.runs[at].has(&gtid)
+    }
+
+    /// Puts the GTID in. Linear in the runs at most; nothing changes where memory is refused.
+    pub fn add(&mut self, gtid: Gtid) -> Result<(), Memory>
+        requires { IsNumber gtid.number }
+        ensures ok { OnOk result (self.new ≡ with_gtid self.old gtid) }
+        ensures err { OnErr result (self.new ≡ self.old) }
+    {
+        put_gtid(&mut self.runs, gtid)
     }
 }

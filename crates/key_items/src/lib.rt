@@ -3,6 +3,8 @@
 
 mod change;
 mod item;
+#[cfg(test)]
+mod tests;
 mod write_set;
 
 pub use change::{Change, ChangeKind};

@@ -20,8 +20,6 @@ use Rattle.script_run.proofs.Playing.{Along, Begins, along_pulls}
 use Rattle.std.proofs.Common.{Result, Ok, Err}
 use Rattle.std.specs.Result.{is_err}
 use Rattle.script_run.specs.Reading.{Reads}
-use Rattle.script_run.specs.declared.front_line.ReadFault.{ReadFault}
-use Rattle.script_run.specs.declared.front_line.ReadFault.TheVariants.{Memory}
 use Rattle.gr_io.specs.Put.{put_bytes, FailsBy, IdlesBy}
 use Rattle.gr_io.specs.declared.PutFault.{PutFault}
 use Rattle.gr_io.specs.declared.PutFault.TheVariants.{Failed, TookNothing}

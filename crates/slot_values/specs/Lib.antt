@@ -1,2 +1,3 @@
 pub mod Log
 pub mod Values
+pub mod Turns

@@ -1,6 +1,15 @@
 //! What a slot decides: values, the rule by which they are kept, and the configurations behind the horizon.
 #![tactic(auto)]
 
+mod kept;
+mod member;
+mod reading;
+mod turns;
+mod turns_at;
 mod value;
 
+pub use kept::Kept;
+pub use member::Member;
+pub use turns::Turns;
+pub use turns_at::TurnsAt;
 pub use value::{Joiner, Value, Vote, What};

@@ -1,0 +1,6 @@
+pub mod Keys
+pub mod RunLemmas
+pub mod Members
+pub mod Searching
+pub mod PutLemmas
+pub mod PartLemmas
