@@ -103,6 +103,7 @@ sends_greeting a x v g d t h = Then (subst (λ s. Moves a (record a { node = (ta
   where
     one : flat_map (greets (Some v) a.node.turns (take a.node).node) (take a.node).took ≡ g ∷ []
     one = ap (λ l. flat_map (greets (Some v) a.node.turns (take a.node).node) l) t ∙ (append_nil (greets (Some v) a.node.turns (take a.node).node x) ∙ h)
+
     eq : a.sent ++ ((take a.node).sent ++ flat_map (greets (Some v) a.node.turns (take a.node).node) (take a.node).took) ≡ (a.sent ++ (take a.node).sent) ++ g ∷ []
     eq = ap (λ l. a.sent ++ ((take a.node).sent ++ l)) one ∙ sym (append_assoc a.sent (take a.node).sent (g ∷ []))
 
@@ -137,8 +138,10 @@ moves_greeting a x w p b j d t k q e y true = go (take a.node).node.turns refl
   where
     here : takes_effect w.reading x.value ≡ true
     here = kept_effect w.reading x.value p b (subst (λ o. became (reading_of o) x.value ≡ KeptAt p b) k q) e
+
     v : Shown
     v = shown (view a.setup (d ∷ a.life))
+
     go : (o : Option Turns) → (take a.node).node.turns ≡ o → Moves a (greet_by j.inc o (push d (by_node take a)))
     go None f = Then (takes_plainly a) (Leaves d (by_node take a))
     go (Some u) f = sends_greeting a x v (message (take a.node).node j.inc (Greet (welcome_of (take a.node).node u v))) d t (greets_one v w u a.node (take a.node).node x j k here y f)
@@ -183,13 +186,17 @@ moves_plain a x w p b t k q h = go x.value.what refl
   where
     e : Entry
     e = entry_of a.setup a.life x.slot p b x.value
+
     c : Member
     c = push (Took e) (by_node take a)
+
     taken : Moves a c
     taken = Then (takes_plainly a) (Leaves (Took e) (by_node take a))
+
     falls : (z : Bool) → Moves c (elim z [ true ↦ fall Removed c | false ↦ c ])
     falls true = moves_fall Removed c
     falls false = Stays c
+
     go : (y : What) → x.value.what ≡ y → Moves a (on_plain x.value.id.origin y e.holds c)
     go (Add j) f = moves_greeting a x w p b j (Took e) t k q (add_plain a x.slot p b x.value j f h) f (is_up (state c.life) && not (inc_eq j.inc c.me.inc))
     go (Remove i) f = Then taken (falls (inc_eq i c.me.inc))
@@ -202,10 +209,13 @@ moves_kept a x w p b t k q = go e.effect refl
   where
     e : Entry
     e = entry_of a.setup a.life x.slot p b x.value
+
     c : Member
     c = push (Took e) (by_node take a)
+
     taken : Moves a c
     taken = Then (takes_plainly a) (Leaves (Took e) (by_node take a))
+
     go : (f : Effect) → e.effect ≡ f → Moves a (causes e f c)
     go Plain h = moves_plain a x w p b t k q h
     go Void h = taken
@@ -218,8 +228,10 @@ moves_slot a x xs t = go (became (reading_of a.node.turns) x.value) refl
   where
     one : TookOne a.node x xs
     one = took_one a.node x xs t
+
     alone : (take a.node).took ≡ x ∷ []
     alone = t ∙ ap (λ l. x ∷ l) one.alone
+
     go : (r : Became) → became (reading_of a.node.turns) x.value ≡ r → Moves a (take_kept x.slot x.value r (by_node take a))
     go IsSkipped q = Then (takes_plainly a) (Leaves (Skips x.slot x.value) (by_node take a))
     go (KeptAt p b) q = moves_kept a x one.turns p b alone one.known q
