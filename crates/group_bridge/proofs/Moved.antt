@@ -57,7 +57,7 @@ use Rattle.group_rules.specs.Recovery.{fail_ask, check_donor, check_ask, unless_
 use Rattle.group_rules.specs.Points.{commit_all, prepare_all, begin_all, arrive, point, commit_one, answer_own, answer_commit, prepare_one, begin_one, begin_by, unless_pending}
 use Rattle.group_rules.specs.Taking.{answer_conflict, on_conflict, propose}
 use Rattle.group_rules.specs.Steps.{hear_add, hear_offer, done_of, time_out, time_out_by, expel_one, campaign_if_due, look_after, tell_at, member_tick, tick_on, tick_once, add_of, reply_ballot, reply_sent, if_online, leave, operate, held_mark}
-use Rattle.group_bridge.specs.Moves.{Moves, Stays, Leaves, Sends, Acts, Then, acts}
+use Rattle.group_bridge.specs.Moves.{Moves, Stays, Leaves, Sends, Acts, Makes, Then, acts}
 
 inc_same : (i : Inc) → inc_eq i i ≡ true
 inc_same i = and_from _ _ (eq-eqb i.server i.server refl) (eq-eqb i.start i.start refl)
@@ -73,23 +73,22 @@ either_not true p q = q
 -- ---- small acts
 
 -- an own value is one of its node's own
-acts_own : (v : Value) (a : Member) → v.id.origin ≡ a.me.inc → Moves a (at_node (Own v) a)
-acts_own v a e = go (inc_eq v.id.origin a.me.inc) (subst (λ i. inc_eq i a.me.inc ≡ true) (sym e) (inc_same a.me.inc)) (Acts (Owns v) a)
-  where
-    go : (b : Bool) → b ≡ true → Moves a (by_node (λ n. if b then node_step (Own v) n else quiet n) a) → Moves a (at_node (Own v) a)
-    go true w m = m
-    go false w m = absurd (false≢true w)
-
 pub moves_own : (w : What) (holds : Option Body) (a : Member) → Moves a (own w holds a)
-moves_own w holds a =
-    let v : Value = record { id = next_id a; what = w } in
-    Then (Leaves (Made v holds) a) (acts_own v (push (Made v holds) a) refl)
+moves_own w holds a = go (inc_eq a.me.inc a.me.inc) (inc_same a.me.inc) (Makes v holds a refl)
+  where
+    v : Value
+    v = record { id = next_id a; what = w }
+    b : Member
+    b = push (Made v holds) a
+    go : (c : Bool) → c ≡ true → Moves a (by_node (λ n. if c then node_step (Own v) n else quiet n) b) → Moves a (at_node (Own v) b)
+    go true e m = m
+    go false e m = absurd (false≢true e)
 
 pub moves_own_body : (b : Body) (a : Member) → Moves a (own_body b a)
 moves_own_body b a = moves_own (Says (body_bytes b)) (Some b) a
 
 pub moves_last : (s : ℕ) (x : Answer) (a : Member) → Moves a (last_answer s x a)
-moves_last s x a = Then (Leaves (Answered s x) a) (Leaves (Ends s) (push (Answered s x) a))
+moves_last s x a = Then (Leaves (Answered s x) a refl) (Leaves (Ends s) (push (Answered s x) a) refl)
 
 pub moves_each : {A : Type 0} → (f : A → Member → Member) → ((x : A) (a : Member) → Moves a (f x a)) → (xs : List A) (a : Member) → Moves a (for_each f xs a)
 moves_each f h [] a = Stays a
@@ -105,7 +104,7 @@ moves_leave s a = go (phase a.life s)
     go (Asking i) = moves_last s (unanswered i (waiting_as (pending a.life) i)) a
 
 pub moves_fall : (c : Cause) (a : Member) → Moves a (fall c a)
-moves_fall c a = Then (Leaves (Is Error c) a) (moves_each leave_session moves_leave (sessions (push (Is Error c) a).life) (push (Is Error c) a))
+moves_fall c a = Then (Leaves (Is Error c) a refl) (moves_each leave_session moves_leave (sessions (push (Is Error c) a).life) (push (Is Error c) a))
 
 -- ---- session calls
 
@@ -113,21 +112,21 @@ moves_sync : (v : Level) (a : Member) → Moves a (send_sync v a)
 moves_sync v a = either (has_sync v) (moves_own_body Sync a) (Stays a)
 
 moves_begin : (s : ℕ) (v : Level) (w : ℕ) (a : Member) → Moves a (begin s v w a)
-moves_begin s v w a = either _ (Leaves (Answered s (NotOnline (state a.life))) a) (Then (Leaves (Called s v w) a) (moves_sync v (push (Called s v w) a)))
+moves_begin s v w a = either _ (Leaves (Answered s (NotOnline (state a.life))) a refl) (Then (Leaves (Called s v w) a refl) (moves_sync v (push (Called s v w) a)))
 
 moves_change : (s : ℕ) (c : Change) (a : Member) → Moves a (change_row s c a)
-moves_change s c a = either _ (Leaves (Changed s c) a) (Leaves (Answered s (misfit c.what)) a)
+moves_change s c a = either _ (Leaves (Changed s c) a refl) (Leaves (Answered s (misfit c.what)) a refl)
 
 moves_unless_locked : (s : ℕ) (c : Change) (h : Option Holder) (a : Member) → Moves a (unless_locked s c h a)
 moves_unless_locked s c None a = moves_change s c a
-moves_unless_locked s c (Some h) a = Leaves (Answered s (RowLocked h)) a
+moves_unless_locked s c (Some h) a = Leaves (Answered s (RowLocked h)) a refl
 
 moves_statement : (s : ℕ) (c : Change) (a : Member) → Moves a (statement s c a)
 moves_statement s c a = go (is_up (state_then (last_call a.life s)))
   where
     go : (b : Bool) → Moves a (elim b [ false ↦ answer s (NotOnline (state_then (last_call a.life s))) a | true ↦ elim (is_read_only a) [ true ↦ answer s (read_only a) a | false ↦ unless_locked s c (holder a.life a.me.inc s c.item) a ] ])
-    go false = Leaves (Answered s (NotOnline (state_then (last_call a.life s)))) a
-    go true = either (is_read_only a) (Leaves (Answered s (read_only a)) a) (moves_unless_locked s c (holder a.life a.me.inc s c.item) a)
+    go false = Leaves (Answered s (NotOnline (state_then (last_call a.life s)))) a refl
+    go true = either (is_read_only a) (Leaves (Answered s (read_only a)) a refl) (moves_unless_locked s c (holder a.life a.me.inc s c.item) a)
 
 moves_part : (t : Txn) (p : Part) (a : Member) → Moves a (own_part t p a)
 moves_part t p a = moves_own (Says (body_bytes (PartOf p))) _ a
@@ -135,7 +134,7 @@ moves_part t p a = moves_own (Says (body_bytes (PartOf p))) _ a
 moves_ask_commit : (s n : ℕ) (f : Member → Member) → ((a : Member) → Moves a (f a)) → (a : Member) → Moves a (ask_commit s n f a)
 moves_ask_commit s n f h a =
     let i : ValueId = record { origin = a.me.inc; number = n } in
-    Then (Leaves (AsksCommit s i) a) (Then (h (push (AsksCommit s i) a)) (Leaves (Answered s (Sent i)) (f (push (AsksCommit s i) a))))
+    Then (Leaves (AsksCommit s i) a refl) (Then (h (push (AsksCommit s i) a)) (Leaves (Answered s (Sent i)) (f (push (AsksCommit s i) a)) refl))
 
 moves_parts : (s : ℕ) (t : Txn) (ps : List Part) (a : Member) → Moves a (send_parts s t ps a)
 moves_parts s t ps a = moves_ask_commit s (last_made a.life + length ps) (for_each (own_part t) ps) (λ b. moves_each (own_part t) (moves_part t) ps b) a
@@ -151,8 +150,8 @@ moves_commit_changes s [] a = moves_last s CommittedEmpty a
 moves_commit_changes s (c ∷ cs) a = either _ (moves_last s (read_only a) a) (moves_commit_bytes s (txn_of s a) (body_bytes (HasTxn (txn_of s a))) a)
 
 moves_in : (s : ℕ) (r : Request) (a : Member) → Moves a (in_transaction s r a)
-moves_in s (Begin v w) a = Leaves (Answered s Busy) a
-moves_in s (Get i) a = Leaves (Answered s (Got (row_then a.life s i))) a
+moves_in s (Begin v w) a = Leaves (Answered s Busy) a refl
+moves_in s (Get i) a = Leaves (Answered s (Got (row_then a.life s i))) a refl
 moves_in s (Insert i r) a = moves_statement s (record { item = i; what = Inserts r }) a
 moves_in s (Update i r) a = moves_statement s (record { item = i; what = Updates r }) a
 moves_in s (Delete i) a = moves_statement s (record { item = i; what = Deletes }) a
@@ -161,18 +160,18 @@ moves_in s Rollback a = moves_last s RolledBack a
 
 moves_without : (s : ℕ) (r : Request) (a : Member) → Moves a (without_transaction s r a)
 moves_without s (Begin v w) a = moves_begin s v w a
-moves_without s (Get i) a = Leaves (Answered s NoTransaction) a
-moves_without s (Insert i r) a = Leaves (Answered s NoTransaction) a
-moves_without s (Update i r) a = Leaves (Answered s NoTransaction) a
-moves_without s (Delete i) a = Leaves (Answered s NoTransaction) a
-moves_without s Commit a = Leaves (Answered s NoTransaction) a
-moves_without s Rollback a = Leaves (Answered s NoTransaction) a
+moves_without s (Get i) a = Leaves (Answered s NoTransaction) a refl
+moves_without s (Insert i r) a = Leaves (Answered s NoTransaction) a refl
+moves_without s (Update i r) a = Leaves (Answered s NoTransaction) a refl
+moves_without s (Delete i) a = Leaves (Answered s NoTransaction) a refl
+moves_without s Commit a = Leaves (Answered s NoTransaction) a refl
+moves_without s Rollback a = Leaves (Answered s NoTransaction) a refl
 
 moves_by_phase : (s : ℕ) (r : Request) (p : Phase) (a : Member) → Moves a (by_phase s r p a)
 moves_by_phase s r Free a = moves_without s r a
-moves_by_phase s r Holding a = Leaves (Answered s Busy) a
+moves_by_phase s r Holding a = Leaves (Answered s Busy) a refl
 moves_by_phase s r Active a = moves_in s r a
-moves_by_phase s r (Asking i) a = Leaves (Answered s Busy) a
+moves_by_phase s r (Asking i) a = Leaves (Answered s Busy) a refl
 
 moves_unless_killed : (s : ℕ) (r : Request) (o : Option Gtid) (a : Member) → Moves a (unless_killed s r o a)
 moves_unless_killed s r (Some g) a = moves_last s (Killed g) a
@@ -185,10 +184,10 @@ moves_call s r a = moves_unless_killed s r (killed a.life s) a
 -- ---- joining
 
 moves_hear_welcome : (w : Welcome) (a : Member) → Moves a (hear_welcome w a)
-moves_hear_welcome w a = either _ (Then (Leaves (Enters w) a) (Leaves (Is Recovering Welcomed) (push (Enters w) a))) (Stays a)
+moves_hear_welcome w a = either _ (Then (Leaves (Enters w) a refl) (Leaves (Is Recovering Welcomed) (push (Enters w) a) refl)) (Stays a)
 
 moves_fail_ask : (a : Member) → Moves a (fail_ask a)
-moves_fail_ask a = Then (Leaves AskFails a) (either _ (moves_fall (NoDonor 10) (push AskFails a)) (Stays (push AskFails a)))
+moves_fail_ask a = Then (Leaves AskFails a refl) (either _ (moves_fall (NoDonor 10) (push AskFails a)) (Stays (push AskFails a)))
 
 moves_check_donor : (o : Option Inc) (a : Member) → Moves a (check_donor o a)
 moves_check_donor None a = Stays a
@@ -203,21 +202,21 @@ moves_unless_self d b a = either _ (Stays a) (Sends d (ask_wire b) a refl)
 moves_ask_donor : (d : Inc) (a : Member) → Moves a (ask_donor d a)
 moves_ask_donor d a =
     let b : Member = push (Replied (Asked d)) a in
-    either_not _ (Leaves (Replied NoAskDue) a) (Then (Leaves (Replied (Asked d)) a) (Then (moves_unless_self d a b) (moves_check_ask (unless_self d (ask_wire a) b))))
+    either_not _ (Leaves (Replied NoAskDue) a refl) (Then (Leaves (Replied (Asked d)) a refl) (Then (moves_unless_self d a b) (moves_check_ask (unless_self d (ask_wire a) b))))
 
 moves_donor_failed : (a : Member) → Moves a (donor_failed a)
-moves_donor_failed a = either_not _ (Leaves (Replied NoAskPending) a) (Then (Leaves (Replied Failed) a) (moves_fail_ask (push (Replied Failed) a)))
+moves_donor_failed a = either_not _ (Leaves (Replied NoAskPending) a refl) (Then (Leaves (Replied Failed) a refl) (moves_fail_ask (push (Replied Failed) a)))
 
 moves_give_at : (i : Inc) (e : Gtids) (o : Option Entry) (a : Member) → Moves a (give_at i e o a)
 moves_give_at i e None a = Stays a
 moves_give_at i e (Some x) a = either _ (Sends i _ a refl) (Stays a)
 
 moves_restore : (g : Give) (cs : List Cert) (e : Gtids) (a : Member) → Moves a (restore g cs e a)
-moves_restore g cs [] a = Leaves (Restores g cs) a
+moves_restore g cs [] a = Leaves (Restores g cs) a refl
 moves_restore g cs (x ∷ xs) a = moves_fall (Extra (x ∷ xs)) a
 
 moves_take_give : (g : Give) (cs : List Cert) (a : Member) → Moves a (take_give g cs a)
-moves_take_give g cs a = either_not _ (Stays a) (Then (Leaves (Gave g.place (length g.txns)) a) (moves_restore g cs _ (push (Gave g.place (length g.txns)) a)))
+moves_take_give g cs a = either_not _ (Stays a) (Then (Leaves (Gave g.place (length g.txns)) a refl) (moves_restore g cs _ (push (Gave g.place (length g.txns)) a)))
 
 moves_hear_give : (i : Inc) (g : Give) (a : Member) → Moves a (hear_give i g a)
 moves_hear_give i g a = either_not _ (Stays a) (moves_take_give g (certs_given g.txns) a)
@@ -231,14 +230,14 @@ moves_answer_own : (c : Cert) (a : Member) → Moves a (answer_own c a)
 moves_answer_own c a = either _ (moves_each (answer_commit c) (moves_answer_commit c) (sessions a.life) a) (Stays a)
 
 moves_commit_one : (c : Cert) (a : Member) → Moves a (commit_one c a)
-moves_commit_one c a = either _ (Then (Leaves (Committed c.gtid) a) (moves_answer_own c (push (Committed c.gtid) a))) (Stays a)
+moves_commit_one c a = either _ (Then (Leaves (Committed c.gtid) a refl) (moves_answer_own c (push (Committed c.gtid) a))) (Stays a)
 
 moves_prepare_one : (c : Cert) (a : Member) → Moves a (prepare_one c a)
 moves_prepare_one c a = either _ (moves_own_body (Prepared c.gtid) a) (Stays a)
 
 moves_begin_by : (s : ℕ) (o : Option Call) (a : Member) → Moves a (begin_by s o a)
 moves_begin_by s None a = Stays a
-moves_begin_by s (Some c) a = either _ (Leaves (Begun s (executed a.life) (sync_told a.me.inc c a.life)) a) (Stays a)
+moves_begin_by s (Some c) a = either _ (Leaves (Begun s (executed a.life) (sync_told a.me.inc c a.life)) a refl) (Stays a)
 
 moves_begin_one : (s : ℕ) (a : Member) → Moves a (begin_one s a)
 moves_begin_one s a = either _ (moves_begin_by s (last_call a.life s) a) (Stays a)
@@ -280,7 +279,7 @@ pub moves_on_conflict : (i : ValueId) (g : Gtid) (a : Member) → Moves a (on_co
 moves_on_conflict i g a = moves_each (answer_conflict i g) (moves_answer_conflict i g) (sessions a.life) a
 
 pub moves_propose : (a : Member) → Moves a (propose a)
-moves_propose a = either _ (Stays a) (Acts Proposes a)
+moves_propose a = either _ (Stays a) (Acts Proposes a refl)
 
 -- ---- actions
 
@@ -310,9 +309,9 @@ pub moves_give : (i : Inc) (g : Give) (a : Member) → Moves a (hear_give i g a)
 moves_give i g a = moves_hear_give i g a
 
 moves_done : (p : ℕ) (b : Option (List ℕ)) (o : Option Cert) (a : Member) → Moves a (done_of p b o a)
-moves_done p None o a = Leaves (Replied (NotQueued p)) a
-moves_done p (Some b) None a = Leaves (Replied (NotQueued p)) a
-moves_done p (Some b) (Some c) a = either_not _ (Leaves (Replied (NotQueued p)) a) (either _ (Leaves (Replied (AlreadyDone p)) a) (Leaves (Done p) a))
+moves_done p None o a = Leaves (Replied (NotQueued p)) a refl
+moves_done p (Some b) None a = Leaves (Replied (NotQueued p)) a refl
+moves_done p (Some b) (Some c) a = either_not _ (Leaves (Replied (NotQueued p)) a refl) (either _ (Leaves (Replied (AlreadyDone p)) a refl) (Leaves (Done p) a refl))
 
 moves_time_out_by : (s : ℕ) (o : Option Call) (a : Member) → Moves a (time_out_by s o a)
 moves_time_out_by s None a = Stays a
@@ -325,7 +324,7 @@ moves_expel : (w : Watch) (i : Inc) (a : Member) → Moves a (expel_one w i a)
 moves_expel w i a = either _ (moves_own (Remove i) None a) (Stays a)
 
 moves_campaign : (w : Watch) (a : Member) → Moves a (campaign_if_due w a)
-moves_campaign w a = either _ (Acts Campaigns a) (Stays a)
+moves_campaign w a = either _ (Acts Campaigns a refl) (Stays a)
 
 moves_look_after : (w : Watch) (a : Member) → Moves a (look_after w a)
 moves_look_after w a =
@@ -338,7 +337,7 @@ moves_tell n a = either _ (moves_own_body (Executed (executed a.life)) a) (Stays
 moves_member_tick : (w : Watch) (a : Member) → Moves a (member_tick w a)
 moves_member_tick w a =
     let b : Member = at_node Tick a in
-    either _ (moves_fall NoMajority a) (Then (Acts NodeTicks a) (Then (moves_look_after w b) (moves_tell (ticks a.life) (look_after w b))))
+    either _ (moves_fall NoMajority a) (Then (Acts NodeTicks a refl) (Then (moves_look_after w b) (moves_tell (ticks a.life) (look_after w b))))
 
 moves_tick_on : (a : Member) → Moves a (tick_on a)
 moves_tick_on a = either _ (Sends a.contact (Offer (add_of a.me)) a refl) (moves_member_tick (watch a.setup a.me.inc a.life) a)
@@ -347,13 +346,13 @@ moves_tick : (a : Member) → Moves a (tick_once a)
 moves_tick a = Then (moves_each time_out moves_time_out (sessions a.life) a) (moves_tick_on (for_each time_out (sessions a.life) a))
 
 moves_reply_sent : (f : Member → Member) → ((a : Member) → Moves a (f a)) → (a : Member) → Moves a (reply_sent f a)
-moves_reply_sent f h a = Then (h a) (Leaves (Replied (SentAs (next_id a))) (f a))
+moves_reply_sent f h a = Then (h a) (Leaves (Replied (SentAs (next_id a))) (f a) refl)
 
 moves_if_online : (f : Member → Member) → ((a : Member) → Moves a (f a)) → (a : Member) → Moves a (if_online f a)
-moves_if_online f h a = either _ (h a) (Leaves (Replied (IsNotOnline (state a.life))) a)
+moves_if_online f h a = either _ (h a) (Leaves (Replied (IsNotOnline (state a.life))) a refl)
 
 moves_reply_ballot : (a : Member) → Moves a (reply_ballot a)
-moves_reply_ballot a = Leaves (Replied (AtBallot a.node.acceptor.promise)) a
+moves_reply_ballot a = Leaves (Replied (AtBallot a.node.acceptor.promise)) a refl
 
 moves_leave_group : (a : Member) → Moves a (leave a)
 moves_leave_group a = moves_reply_sent (own (Remove a.me.inc) None) (moves_own (Remove a.me.inc) None) a
@@ -362,7 +361,7 @@ moves_body_sent : (b : Body) (a : Member) → Moves a (reply_sent (own_body b) a
 moves_body_sent b a = moves_reply_sent (own_body b) (moves_own_body b) a
 
 moves_operate : (o : Operator) (a : Member) → Moves a (operate o a)
-moves_operate Campaign a = moves_if_online (λ b. reply_ballot (at_node CampaignEvent b)) (λ b. Then (Acts Campaigns b) (moves_reply_ballot (at_node CampaignEvent b))) a
+moves_operate Campaign a = moves_if_online (λ b. reply_ballot (at_node CampaignEvent b)) (λ b. Then (Acts Campaigns b refl) (moves_reply_ballot (at_node CampaignEvent b))) a
 moves_operate Tell a = moves_if_online (λ b. reply_sent (own_body (Executed (executed b.life))) b) (λ b. moves_body_sent (Executed (executed b.life)) b) a
 moves_operate Leave a = either _ (moves_leave_group a) (moves_if_online leave moves_leave_group a)
 moves_operate (SetPrimary i) a = moves_if_online (reply_sent (own_body (Appoints i))) (moves_body_sent (Appoints i)) a
@@ -370,10 +369,10 @@ moves_operate (SetSingle i) a = moves_if_online (reply_sent (own_body (Switches 
 moves_operate SetMulti a = moves_if_online (reply_sent (own_body (Switches ToMulti))) (moves_body_sent (Switches ToMulti)) a
 moves_operate (AskDonor d) a = moves_ask_donor d a
 moves_operate DonorFailed a = moves_donor_failed a
-moves_operate Finish a = Leaves (Replied Finished) a
+moves_operate Finish a = Leaves (Replied Finished) a refl
 
 pub moves_held : (e : Event) (a : Member) → Moves a (held_mark e a)
-moves_held (Calls s r) a = either _ (Leaves (Answered s Held) a) (Stays a)
+moves_held (Calls s r) a = either _ (Leaves (Answered s Held) a refl) (Stays a)
 moves_held (Hears m) a = Stays a
 moves_held Ticks a = Stays a
 moves_held (Works p b) a = Stays a

@@ -37,7 +37,7 @@ use Rattle.group_rules.specs.Welcomes.{greet, greet_by}
 use Rattle.group_rules.specs.Points.{point}
 use Rattle.group_rules.specs.Taking.{entry_of, effect_of, on_plain, causes, take_kept, reading_of, take_slot, next_slot, takes_slots, take_slots, propose, rounds, settle_slots}
 use Rattle.group_rules.specs.Steps.{hear_wire, hear_in_error, act_alive, act_in_error, act, held_mark, step}
-use Rattle.group_bridge.specs.Moves.{Moves, Stays, Leaves, Sends, Acts, Then, acts, cleared, Begins}
+use Rattle.group_bridge.specs.Moves.{slots_of, Moves, Stays, Leaves, Sends, Acts, Reads, Then, acts, cleared, Begins}
 use Rattle.group_bridge.proofs.Moved.{moves_fall, moves_on_conflict, moves_point, moves_propose, moves_after_offer, moves_after_welcome, moves_after_other, moves_ask, moves_give, moves_tick_once, moves_work, moves_session, moves_operator, moves_held}
 
 -- ---- lists
@@ -82,9 +82,9 @@ no_greets : (w : Option Turns) (m : Node) (xs : List SlotEntry) → flat_map (gr
 no_greets w m [] = refl
 no_greets w m (x ∷ xs) = no_greets w m xs
 
--- a member's node takes the next slot
-takes_plainly : (a : Member) → Moves a (by_node take a)
-takes_plainly a = subst (λ s. Moves a (record a { node = (take a.node).node; sent = a.sent ++ s })) (ap (λ l. (take a.node).sent ++ l) (no_greets a.node.turns (take a.node).node (take a.node).took) ∙ append_nil (take a.node).sent) (Acts (Takes None) a)
+-- a member takes the next slot, and its node does
+reads_plainly : (a : Member) (d : Did) → slots_of d ≡ (take a.node).took → Moves a (push d (by_node take a))
+reads_plainly a d e = subst (λ s. Moves a (push d (record a { node = (take a.node).node; sent = a.sent ++ s }))) (ap (λ l. (take a.node).sent ++ l) (no_greets a.node.turns (take a.node).node (take a.node).took) ∙ append_nil (take a.node).sent) (Reads None d a e)
 
 -- ---- with a Welcome
 
@@ -97,9 +97,9 @@ greets_one v w u n m x j k t d e = rw k (go (takes_effect w.reading x.value) t)
     go false h = absurd (false≢true h)
 
 -- the member after its node took the entry, and after what it left, with the Welcome sent
-sends_greeting : (a : Member) (x : SlotEntry) (v : Shown) (g : Message) (d : Did) → (take a.node).took ≡ x ∷ [] → greets (Some v) a.node.turns (take a.node).node x ≡ g ∷ [] →
+sends_greeting : (a : Member) (x : SlotEntry) (v : Shown) (g : Message) (d : Did) → slots_of d ≡ x ∷ [] → (take a.node).took ≡ x ∷ [] → greets (Some v) a.node.turns (take a.node).node x ≡ g ∷ [] →
     Moves a (push d (record a { node = (take a.node).node; sent = (a.sent ++ (take a.node).sent) ++ g ∷ [] }))
-sends_greeting a x v g d t h = Then (subst (λ s. Moves a (record a { node = (take a.node).node; sent = s })) eq (Acts (Takes (Some v)) a)) (Leaves d _)
+sends_greeting a x v g d z t h = subst (λ s. Moves a (push d (record a { node = (take a.node).node; sent = s }))) eq (Reads (Some v) d a (z ∙ sym t))
   where
     one : flat_map (greets (Some v) a.node.turns (take a.node).node) (take a.node).took ≡ g ∷ []
     one = ap (λ l. flat_map (greets (Some v) a.node.turns (take a.node).node) l) t ∙ (append_nil (greets (Some v) a.node.turns (take a.node).node x) ∙ h)
@@ -130,11 +130,11 @@ kept_effect r v p b e t = go (is_kept r v) refl e
     go false k h = absurd (false≢true (ap effect_at h ∙ t))
 
 -- a member that is ONLINE sends a joiner a Welcome
-moves_greeting : (a : Member) (x : SlotEntry) (w : Turns) (p : ℕ) (b : Bool) (j : Joiner) (d : Did) →
+moves_greeting : (a : Member) (x : SlotEntry) (w : Turns) (p : ℕ) (b : Bool) (j : Joiner) (d : Did) → slots_of d ≡ x ∷ [] →
     (take a.node).took ≡ x ∷ [] → a.node.turns ≡ Some w → became (reading_of a.node.turns) x.value ≡ KeptAt p b → b ≡ true → x.value.what ≡ Add j →
     (c : Bool) → Moves a (elim c [ true ↦ greet_by j.inc (take a.node).node.turns (push d (by_node take a)) | false ↦ push d (by_node take a) ])
-moves_greeting a x w p b j d t k q e y false = Then (takes_plainly a) (Leaves d (by_node take a))
-moves_greeting a x w p b j d t k q e y true = go (take a.node).node.turns refl
+moves_greeting a x w p b j d z t k q e y false = reads_plainly a d (z ∙ sym t)
+moves_greeting a x w p b j d z t k q e y true = go (take a.node).node.turns refl
   where
     here : takes_effect w.reading x.value ≡ true
     here = kept_effect w.reading x.value p b (subst (λ o. became (reading_of o) x.value ≡ KeptAt p b) k q) e
@@ -143,11 +143,11 @@ moves_greeting a x w p b j d t k q e y true = go (take a.node).node.turns refl
     v = shown (view a.setup (d ∷ a.life))
 
     go : (o : Option Turns) → (take a.node).node.turns ≡ o → Moves a (greet_by j.inc o (push d (by_node take a)))
-    go None f = Then (takes_plainly a) (Leaves d (by_node take a))
-    go (Some u) f = sends_greeting a x v (message (take a.node).node j.inc (Greet (welcome_of (take a.node).node u v))) d t (greets_one v w u a.node (take a.node).node x j k here y f)
+    go None f = reads_plainly a d (z ∙ sym t)
+    go (Some u) f = sends_greeting a x v (message (take a.node).node j.inc (Greet (welcome_of (take a.node).node u v))) d z t (greets_one v w u a.node (take a.node).node x j k here y f)
 
 comes_online : (c : Bool) (a : Member) → Moves a (elim c [ true ↦ push (Is Online OwnOnline) a | false ↦ a ])
-comes_online true a = Leaves (Is Online OwnOnline) a
+comes_online true a = Leaves (Is Online OwnOnline) a refl
 comes_online false a = Stays a
 
 moves_on_noop : (o : Inc) (b : Option Body) (a : Member) → Moves a (on_plain o Noop b a)
@@ -191,14 +191,14 @@ moves_plain a x w p b t k q h = go x.value.what refl
     c = push (Took e) (by_node take a)
 
     taken : Moves a c
-    taken = Then (takes_plainly a) (Leaves (Took e) (by_node take a))
+    taken = reads_plainly a (Took e) (sym t)
 
     falls : (z : Bool) → Moves c (elim z [ true ↦ fall Removed c | false ↦ c ])
     falls true = moves_fall Removed c
     falls false = Stays c
 
     go : (y : What) → x.value.what ≡ y → Moves a (on_plain x.value.id.origin y e.holds c)
-    go (Add j) f = moves_greeting a x w p b j (Took e) t k q (add_plain a x.slot p b x.value j f h) f (is_up (state c.life) && not (inc_eq j.inc c.me.inc))
+    go (Add j) f = moves_greeting a x w p b j (Took e) refl t k q (add_plain a x.slot p b x.value j f h) f (is_up (state c.life) && not (inc_eq j.inc c.me.inc))
     go (Remove i) f = Then taken (falls (inc_eq i c.me.inc))
     go Noop f = Then taken (moves_on_noop x.value.id.origin e.holds c)
     go (Says z) f = Then taken (moves_on_body x.value.id.origin z e.holds c)
@@ -214,7 +214,7 @@ moves_kept a x w p b t k q = go e.effect refl
     c = push (Took e) (by_node take a)
 
     taken : Moves a c
-    taken = Then (takes_plainly a) (Leaves (Took e) (by_node take a))
+    taken = reads_plainly a (Took e) (sym t)
 
     go : (f : Effect) → e.effect ≡ f → Moves a (causes e f c)
     go Plain h = moves_plain a x w p b t k q h
@@ -233,7 +233,7 @@ moves_slot a x xs t = go (became (reading_of a.node.turns) x.value) refl
     alone = t ∙ ap (λ l. x ∷ l) one.alone
 
     go : (r : Became) → became (reading_of a.node.turns) x.value ≡ r → Moves a (take_kept x.slot x.value r (by_node take a))
-    go IsSkipped q = Then (takes_plainly a) (Leaves (Skips x.slot x.value) (by_node take a))
+    go IsSkipped q = reads_plainly a (Skips x.slot x.value) (sym alone)
     go (KeptAt p b) q = moves_kept a x one.turns p b alone one.known q
 
 -- ---- all slots
@@ -284,11 +284,11 @@ hearing : (m : Message) (a c : Member) → Moves (at_node (Heard m) (cleared a))
 hearing m a c p = record { begin = at_node (Heard m) (cleared a); begins = inr (m, refl, refl); moves = p }
 
 came : (e : Event) (a : Member) → Moves (cleared a) (push (Came e) (cleared a))
-came e a = Leaves (Came e) (cleared a)
+came e a = Leaves (Came e) (cleared a) refl
 
 -- the node hears the message, and then the member moves
 heard_steps : (m : Message) (a c : Member) → Moves (push (Came (Hears m)) (at_node (Heard m) (cleared a))) c → Stepped (Hears m) a c
-heard_steps m a c p = hearing m a c (Then (Leaves (Came (Hears m)) (at_node (Heard m) (cleared a))) p)
+heard_steps m a c p = hearing m a c (Then (Leaves (Came (Hears m)) (at_node (Heard m) (cleared a)) refl) p)
 
 hear_steps : (m : Message) (x : Wire) (a : Member) → Stepped (Hears m) a (hear_wire m x (push (Came (Hears m)) (cleared a)))
 hear_steps m (Asks x) a = quietly (Hears m) a _ (Then (came (Hears m) a) (moves_ask m.from x.place x.executed (push (Came (Hears m)) (cleared a))))
@@ -311,7 +311,7 @@ act_alive_steps (Calls s r) a = quietly (Calls s r) a _ (Then (came (Calls s r) 
 act_alive_steps (Operates o) a = quietly (Operates o) a _ (Then (came (Operates o) a) (moves_operator o (push (Came (Operates o)) (cleared a))))
 
 heard_in_error : (m : Message) (a : Member) → Stepped (Hears m) a (at_node (Heard m) (push (Came (Hears m)) (cleared a)))
-heard_in_error m a = hearing m a _ (Leaves (Came (Hears m)) (at_node (Heard m) (cleared a)))
+heard_in_error m a = hearing m a _ (Leaves (Came (Hears m)) (at_node (Heard m) (cleared a)) refl)
 
 hear_in_error_steps : (m : Message) (x : Wire) (a : Member) → Stepped (Hears m) a (hear_in_error m x (cleared a))
 hear_in_error_steps m (Prepare b s) a = heard_in_error m a
@@ -329,7 +329,7 @@ hear_in_error_steps m (Alive n) a = quietly (Hears m) a _ (Stays (cleared a))
 act_in_error_steps : (e : Event) (a : Member) → Stepped e a (act_in_error e (cleared a))
 act_in_error_steps (Hears m) a = hear_in_error_steps m m.wire a
 act_in_error_steps Ticks a = quietly Ticks a _ (Stays (cleared a))
-act_in_error_steps (Works p b) a = quietly (Works p b) a _ (Leaves (Replied (NotQueued p)) (cleared a))
+act_in_error_steps (Works p b) a = quietly (Works p b) a _ (Leaves (Replied (NotQueued p)) (cleared a) refl)
 act_in_error_steps (Calls s r) a = quietly (Calls s r) a _ (Then (came (Calls s r) a) (moves_session s r (push (Came (Calls s r)) (cleared a))))
 act_in_error_steps (Operates o) a = quietly (Operates o) a _ (Then (came (Operates o) a) (moves_operator o (push (Came (Operates o)) (cleared a))))
 
