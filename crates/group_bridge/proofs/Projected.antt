@@ -9,14 +9,14 @@ use Rattle.std.specs.Prelude.{if◌then◌else◌}
 use Rattle.gr_ids.specs.Names.{inc_eq}
 use Rattle.slot_values.specs.declared.value.Value.{Value}
 use Rattle.txn_forms.specs.declared.body.Body.{Body}
-use Rattle.node_rules.specs.Slots.{Entry as SlotEntry}
+use Rattle.node_rules.specs.declared.taken.Taken.{Taken}
 use Rattle.node_rules.specs.Taking.{take}
 use Rattle.node_rules.specs.Welcoming.{Shown}
 use Rattle.node_rules.specs.World.{Act, Owns, Takes, does, does_all, made_by, all_made_by}
 use Rattle.group_rules.specs.Events.{Event, Did, Made, Life}
 use Rattle.group_rules.specs.Member.{Member}
 use Rattle.group_rules.specs.Steps.{step}
-use Rattle.group_bridge.specs.Moves.{is_apart, slots_of, Moves, Stays, Leaves, Sends, Acts, Makes, Reads, Then, IsActs, StepIsActs}
+use Rattle.group_bridge.specs.Moves.{is_apart, Slot, slots_of, slots_taken, Moves, Stays, Leaves, Sends, Acts, Makes, Reads, Then, IsActs, StepIsActs}
 use Rattle.group_bridge.proofs.Taken.{steps}
 
 -- ---- members of lists
@@ -57,17 +57,31 @@ sent_right : (m : Message) (i : Inc) (xs ys : List Act) (n : Node) → In m (doe
 sent_right m i [] ys n h = h
 sent_right m i (x ∷ xs) ys n h = in_right m (does i x n).sent (does_all i (xs ++ ys) (does i x n).node).sent (sent_right m i xs ys (does i x n).node h)
 
-took_left : (x : SlotEntry) (i : Inc) (xs ys : List Act) (n : Node) → In x (does_all i xs n).took → In x (does_all i (xs ++ ys) n).took
-took_left x i [] ys n h = absurd h
-took_left x i (y ∷ xs) ys n h = go (in_either x (does i y n).took (does_all i xs (does i y n).node).took h) (took_left x i xs ys (does i y n).node)
-  where
-    go : In x (does i y n).took ⊎ In x (does_all i xs (does i y n).node).took → (In x (does_all i xs (does i y n).node).took → In x (does_all i (xs ++ ys) (does i y n).node).took) → In x ((does i y n).took ++ (does_all i (xs ++ ys) (does i y n).node).took)
-    go (inl p) k = in_left x (does i y n).took (does_all i (xs ++ ys) (does i y n).node).took p
-    go (inr q) k = in_right x (does i y n).took (does_all i (xs ++ ys) (does i y n).node).took (k q)
+-- the slots of two lists
+taken_both : (xs ys : List Taken) → slots_taken (xs ++ ys) ≡ slots_taken xs ++ slots_taken ys
+taken_both [] ys = refl
+taken_both (x ∷ xs) ys = ap (λ l. record { slot = x.slot; value = x.value } ∷ l) (taken_both xs ys)
 
-took_right : (x : SlotEntry) (i : Inc) (xs ys : List Act) (n : Node) → In x (does_all i ys (does_all i xs n).node).took → In x (does_all i (xs ++ ys) n).took
+taken_first : (x : Slot) (xs ys : List Taken) → In x (slots_taken xs) → In x (slots_taken (xs ++ ys))
+taken_first x xs ys h = rw (taken_both xs ys) (in_left x (slots_taken xs) (slots_taken ys) h)
+
+taken_second : (x : Slot) (xs ys : List Taken) → In x (slots_taken ys) → In x (slots_taken (xs ++ ys))
+taken_second x xs ys h = rw (taken_both xs ys) (in_right x (slots_taken xs) (slots_taken ys) h)
+
+taken_either : (x : Slot) (xs ys : List Taken) → In x (slots_taken (xs ++ ys)) → In x (slots_taken xs) ⊎ In x (slots_taken ys)
+taken_either x xs ys h = in_either x (slots_taken xs) (slots_taken ys) (subst (λ l. In x l) (taken_both xs ys) h)
+
+took_left : (x : Slot) (i : Inc) (xs ys : List Act) (n : Node) → In x (slots_taken (does_all i xs n).took) → In x (slots_taken (does_all i (xs ++ ys) n).took)
+took_left x i [] ys n h = absurd h
+took_left x i (y ∷ xs) ys n h = go (taken_either x (does i y n).took (does_all i xs (does i y n).node).took h) (took_left x i xs ys (does i y n).node)
+  where
+    go : In x (slots_taken (does i y n).took) ⊎ In x (slots_taken (does_all i xs (does i y n).node).took) → (In x (slots_taken (does_all i xs (does i y n).node).took) → In x (slots_taken (does_all i (xs ++ ys) (does i y n).node).took)) → In x (slots_taken ((does i y n).took ++ (does_all i (xs ++ ys) (does i y n).node).took))
+    go (inl p) k = taken_first x (does i y n).took (does_all i (xs ++ ys) (does i y n).node).took p
+    go (inr q) k = taken_second x (does i y n).took (does_all i (xs ++ ys) (does i y n).node).took (k q)
+
+took_right : (x : Slot) (i : Inc) (xs ys : List Act) (n : Node) → In x (slots_taken (does_all i ys (does_all i xs n).node).took) → In x (slots_taken (does_all i (xs ++ ys) n).took)
 took_right x i [] ys n h = h
-took_right x i (y ∷ xs) ys n h = in_right x (does i y n).took (does_all i (xs ++ ys) (does i y n).node).took (took_right x i xs ys (does i y n).node h)
+took_right x i (y ∷ xs) ys n h = taken_second x (does i y n).took (does_all i (xs ++ ys) (does i y n).node).took (took_right x i xs ys (does i y n).node h)
 
 -- what two lists of acts make
 made_either : (v : Value) (i : Inc) (xs ys : List Act) → In v (all_made_by i (xs ++ ys)) → In v (all_made_by i xs) ⊎ In v (all_made_by i ys)
@@ -106,7 +120,7 @@ joins a b c p q = record {
   more = q.more ++ p.more;
   grown = rw (append_assoc q.more p.more a.life) (subst (λ l. c.life ≡ q.more ++ l) p.grown q.grown);
   took = λ d x h k. elim (in_either d q.more p.more h) [
-    | inl z ↦ took_right x a.me.inc p.acts q.acts a.node (subst (λ n. In x (does_all a.me.inc q.acts n).took) p.node (subst (λ j. In x (does_all j.inc q.acts b.node).took) p.me (q.took d x z k)))
+    | inl z ↦ took_right x a.me.inc p.acts q.acts a.node (subst (λ n. In x (slots_taken (does_all a.me.inc q.acts n).took)) p.node (subst (λ j. In x (slots_taken (does_all j.inc q.acts b.node).took)) p.me (q.took d x z k)))
     | inr z ↦ took_left x a.me.inc p.acts q.acts a.node (p.took d x z k)
   ];
   made = λ v h. elim (made_either v a.me.inc p.acts q.acts h) [
@@ -121,14 +135,14 @@ joins a b c p q = record {
     back e = rw e refl
 
 -- what one act leaves
-took_one : (d : Did) (s : Option Shown) (a : Member) (e : Did) (x : SlotEntry) → slots_of d ≡ (take a.node).took → In e (d ∷ []) → In x (slots_of e) → In x ((does a.me.inc (Takes s) a.node).took ++ [])
-took_one d s a e x w (inl k) h = in_left x (take a.node).took [] (subst (λ l. In x l) w (subst (λ f. In x (slots_of f)) (back k) h))
+took_one : (d : Did) (s : Option Shown) (a : Member) (e : Did) (x : Slot) → slots_of d ≡ slots_taken (take a.node).took → In e (d ∷ []) → In x (slots_of e) → In x (slots_taken ((does a.me.inc (Takes s) a.node).took ++ []))
+took_one d s a e x w (inl k) h = taken_first x (take a.node).took [] (subst (λ l. In x l) w (subst (λ f. In x (slots_of f)) (back k) h))
   where
     back : {A : Type 0} {x y : A} → x ≡ y → y ≡ x
     back k = rw k refl
 took_one d s a e x w (inr z) h = absurd z
 
-no_slots : (d e : Did) (x : SlotEntry) (l : List SlotEntry) → slots_of d ≡ [] → In e (d ∷ []) → In x (slots_of e) → In x l
+no_slots : (d e : Did) (x : Slot) (l : List Slot) → slots_of d ≡ [] → In e (d ∷ []) → In x (slots_of e) → In x l
 no_slots d e x l w (inl k) h = absurd (subst (λ xs. In x xs) w (subst (λ f. In x (slots_of f)) (back k) h))
   where
     back : {A : Type 0} {x y : A} → x ≡ y → y ≡ x

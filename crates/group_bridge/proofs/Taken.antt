@@ -9,7 +9,10 @@ use Rattle.slot_values.specs.declared.value.Joiner.{Joiner}
 use Rattle.slot_values.specs.declared.value.Value.{Value}
 use Rattle.slot_values.specs.declared.value.What.{What}
 use Rattle.slot_values.specs.declared.value.What.TheVariants.{Noop, Add, Remove, Body as Says}
-use Rattle.slot_values.specs.Log.{Reading, Turns, Became, KeptAt, Skips as IsSkipped, became, is_kept, has_effect}
+use Rattle.slot_values.specs.Log.{Turns}
+use Rattle.slot_values.specs.declared.kept.Kept.{Kept}
+use Rattle.slot_values.specs.declared.kept.Kept.TheVariants.{At as KeptAt, Skipped as IsSkipped}
+use Rattle.node_rules.specs.declared.taken.Taken.{Taken}
 use Rattle.txn_forms.specs.declared.body.Body.{Body}
 use Rattle.txn_forms.specs.declared.body.Body.TheVariants.{Txn as HasTxn, Prepared, Sync, Executed, Online as Arrives, Mode as Switches, Primary as Appoints, Part as PartOf}
 use Rattle.paxos_forms.specs.declared.message.Message.{Message}
@@ -35,9 +38,9 @@ use Rattle.group_rules.specs.Parts.{open_parts, held}
 use Rattle.group_rules.specs.Queue.{at_place, queue}
 use Rattle.group_rules.specs.Welcomes.{greet, greet_by}
 use Rattle.group_rules.specs.Points.{point}
-use Rattle.group_rules.specs.Taking.{entry_of, effect_of, on_plain, causes, take_kept, reading_of, take_slot, next_slot, takes_slots, take_slots, propose, rounds, settle_slots}
+use Rattle.group_rules.specs.Taking.{entry_of, effect_of, on_plain, causes, take_kept, take_slot, next_slot, takes_slots, take_slots, propose, rounds, settle_slots}
 use Rattle.group_rules.specs.Steps.{hear_wire, hear_in_error, act_alive, act_in_error, act, held_mark, step}
-use Rattle.group_bridge.specs.Moves.{slots_of, Moves, Stays, Leaves, Sends, Acts, Reads, Then, acts, cleared, Begins}
+use Rattle.group_bridge.specs.Moves.{slots_of, slots_taken, Moves, Stays, Leaves, Sends, Acts, Reads, Then, acts, cleared, Begins}
 use Rattle.group_bridge.proofs.Moved.{moves_fall, moves_on_conflict, moves_point, moves_propose, moves_after_offer, moves_after_welcome, moves_after_other, moves_ask, moves_give, moves_tick_once, moves_work, moves_session, moves_operator, moves_held}
 
 -- ---- lists
@@ -63,48 +66,42 @@ append_assoc (x ∷ xs) ys zs = ap (λ l. x ∷ l) (append_assoc xs ys zs)
 
 -- ---- what taking takes
 
--- the turns of a node that takes a slot, which is one
-pub record TookOne (n : Node) (x : SlotEntry) (xs : List SlotEntry) : Type 0 where
-  pub turns : Turns
-  pub known : n.turns ≡ Some turns
-  pub alone : xs ≡ []
-
-took_one : (n : Node) (x : SlotEntry) (xs : List SlotEntry) → (take n).took ≡ x ∷ xs → TookOne n x xs
+-- a node hands out one slot at most
+took_one : (n : Node) (x : Taken) (xs : List Taken) → (take n).took ≡ x ∷ xs → xs ≡ []
 unfolding take
-took_one n x xs e = go n.turns refl (next_entry n.learner) e
+took_one n x xs e = go n.turns (next_entry n.learner) e
   where
-    go : (o : Option Turns) → n.turns ≡ o → (q : Option SlotEntry) → (take_next n o q).took ++ [] ≡ x ∷ xs → TookOne n x xs
-    go None k q h = absurd (no_cons x xs h)
-    go (Some w) k None h = absurd (no_cons x xs h)
-    go (Some w) k (Some y) h = record { turns = w; known = k; alone = sym (ap tail_of h) }
+    go : (o : Option Turns) (q : Option SlotEntry) → (take_next n o q).took ++ [] ≡ x ∷ xs → xs ≡ []
+    go None q h = absurd (no_cons x xs h)
+    go (Some w) None h = absurd (no_cons x xs h)
+    go (Some w) (Some y) h = sym (ap tail_of h)
 
-no_greets : (w : Option Turns) (m : Node) (xs : List SlotEntry) → flat_map (greets None w m) xs ≡ []
-no_greets w m [] = refl
-no_greets w m (x ∷ xs) = no_greets w m xs
+no_greets : (m : Node) (xs : List Taken) → flat_map (greets None m) xs ≡ []
+no_greets m [] = refl
+no_greets m (x ∷ xs) = no_greets m xs
 
 -- a member takes the next slot, and its node does
-reads_plainly : (a : Member) (d : Did) → slots_of d ≡ (take a.node).took → Moves a (push d (by_node take a))
-reads_plainly a d e = subst (λ s. Moves a (push d (record a { node = (take a.node).node; sent = a.sent ++ s }))) (ap (λ l. (take a.node).sent ++ l) (no_greets a.node.turns (take a.node).node (take a.node).took) ∙ append_nil (take a.node).sent) (Reads None d a e)
+reads_plainly : (a : Member) (d : Did) → slots_of d ≡ slots_taken (take a.node).took → Moves a (push d (by_node take a))
+reads_plainly a d e = subst (λ s. Moves a (push d (record a { node = (take a.node).node; sent = a.sent ++ s }))) (ap (λ l. (take a.node).sent ++ l) (no_greets (take a.node).node (take a.node).took) ∙ append_nil (take a.node).sent) (Reads None d a e)
 
 -- ---- with a Welcome
 
--- what an incarnation that takes this entry with a Welcome sends
-greets_one : (v : Shown) (w u : Turns) (n m : Node) (x : SlotEntry) (j : Joiner) → n.turns ≡ Some w → takes_effect w.reading x.value ≡ true → x.value.what ≡ Add j → m.turns ≡ Some u → greets (Some v) n.turns m x ≡ message m j.inc (Greet (welcome_of m u v)) ∷ []
-greets_one v w u n m x j k t d e = rw k (go (takes_effect w.reading x.value) t)
+-- what an incarnation that takes this slot with a Welcome sends
+greets_one : (v : Shown) (u : Turns) (m : Node) (x : Taken) (j : Joiner) → takes_effect x.kept ≡ true → x.value.what ≡ Add j → m.turns ≡ Some u → greets (Some v) m x ≡ message m j.inc (Greet (welcome_of m u v)) ∷ []
+greets_one v u m x j t d e = go (takes_effect x.kept) t
   where
     go : (b : Bool) → b ≡ true → (if b then node_greets m m.turns x.value.what v else []) ≡ message m j.inc (Greet (welcome_of m u v)) ∷ []
     go true h = rw e (rw d refl)
     go false h = absurd (false≢true h)
 
--- the member after its node took the entry, and after what it left, with the Welcome sent
-sends_greeting : (a : Member) (x : SlotEntry) (v : Shown) (g : Message) (d : Did) → slots_of d ≡ x ∷ [] → (take a.node).took ≡ x ∷ [] → greets (Some v) a.node.turns (take a.node).node x ≡ g ∷ [] →
+-- the member after its node took the slot, and after what it left, with the Welcome sent
+sends_greeting : (a : Member) (x : Taken) (v : Shown) (g : Message) (d : Did) → slots_of d ≡ slots_taken (x ∷ []) → (take a.node).took ≡ x ∷ [] → greets (Some v) (take a.node).node x ≡ g ∷ [] →
     Moves a (push d (record a { node = (take a.node).node; sent = (a.sent ++ (take a.node).sent) ++ g ∷ [] }))
-sends_greeting a x v g d z t h = subst (λ s. Moves a (push d (record a { node = (take a.node).node; sent = s }))) eq (Reads (Some v) d a (z ∙ sym t))
+sends_greeting a x v g d z t h = subst (λ s. Moves a (push d (record a { node = (take a.node).node; sent = s }))) eq (Reads (Some v) d a (z ∙ ap slots_taken (sym t)))
   where
-    one : flat_map (greets (Some v) a.node.turns (take a.node).node) (take a.node).took ≡ g ∷ []
-    one = ap (λ l. flat_map (greets (Some v) a.node.turns (take a.node).node) l) t ∙ (append_nil (greets (Some v) a.node.turns (take a.node).node x) ∙ h)
-
-    eq : a.sent ++ ((take a.node).sent ++ flat_map (greets (Some v) a.node.turns (take a.node).node) (take a.node).took) ≡ (a.sent ++ (take a.node).sent) ++ g ∷ []
+    one : flat_map (greets (Some v) (take a.node).node) (take a.node).took ≡ g ∷ []
+    one = ap (λ l. flat_map (greets (Some v) (take a.node).node) l) t ∙ (append_nil (greets (Some v) (take a.node).node x) ∙ h)
+    eq : a.sent ++ ((take a.node).sent ++ flat_map (greets (Some v) (take a.node).node) (take a.node).took) ≡ (a.sent ++ (take a.node).sent) ++ g ∷ []
     eq = ap (λ l. a.sent ++ ((take a.node).sent ++ l)) one ∙ sym (append_assoc a.sent (take a.node).sent (g ∷ []))
 
 -- ---- an entry taken
@@ -117,34 +114,17 @@ void_plain : (b : Bool) → void_if (not b) ≡ Plain → b ≡ true
 void_plain true e = refl
 void_plain false e = absurd (subst (λ x. IsPlain x) (sym e) tt)
 
-abbrev effect_at : Became → Bool
-effect_at (KeptAt q c) = c
-effect_at IsSkipped = false
-
--- it became the entry at a place: whether it has effect is known
-kept_effect : (r : Reading) (v : Value) (p : ℕ) (b : Bool) → became r v ≡ KeptAt p b → b ≡ true → takes_effect r v ≡ true
-kept_effect r v p b e t = go (is_kept r v) refl e
-  where
-    go : (c : Bool) → is_kept r v ≡ c → (if c then KeptAt (r.place + 1) (has_effect r v.what) else IsSkipped) ≡ KeptAt p b → (c && has_effect r v.what) ≡ true
-    go true k h = ap effect_at h ∙ t
-    go false k h = absurd (false≢true (ap effect_at h ∙ t))
-
 -- a member that is ONLINE sends a joiner a Welcome
-moves_greeting : (a : Member) (x : SlotEntry) (w : Turns) (p : ℕ) (b : Bool) (j : Joiner) (d : Did) → slots_of d ≡ x ∷ [] →
-    (take a.node).took ≡ x ∷ [] → a.node.turns ≡ Some w → became (reading_of a.node.turns) x.value ≡ KeptAt p b → b ≡ true → x.value.what ≡ Add j →
+moves_greeting : (a : Member) (x : Taken) (j : Joiner) (d : Did) → slots_of d ≡ slots_taken (x ∷ []) → (take a.node).took ≡ x ∷ [] → takes_effect x.kept ≡ true → x.value.what ≡ Add j →
     (c : Bool) → Moves a (elim c [ true ↦ greet_by j.inc (take a.node).node.turns (push d (by_node take a)) | false ↦ push d (by_node take a) ])
-moves_greeting a x w p b j d z t k q e y false = reads_plainly a d (z ∙ sym t)
-moves_greeting a x w p b j d z t k q e y true = go (take a.node).node.turns refl
+moves_greeting a x j d z t e y false = reads_plainly a d (z ∙ ap slots_taken (sym t))
+moves_greeting a x j d z t e y true = go (take a.node).node.turns refl
   where
-    here : takes_effect w.reading x.value ≡ true
-    here = kept_effect w.reading x.value p b (subst (λ o. became (reading_of o) x.value ≡ KeptAt p b) k q) e
-
     v : Shown
     v = shown (view a.setup (d ∷ a.life))
-
     go : (o : Option Turns) → (take a.node).node.turns ≡ o → Moves a (greet_by j.inc o (push d (by_node take a)))
-    go None f = reads_plainly a d (z ∙ sym t)
-    go (Some u) f = sends_greeting a x v (message (take a.node).node j.inc (Greet (welcome_of (take a.node).node u v))) d z t (greets_one v w u a.node (take a.node).node x j k here y f)
+    go None f = reads_plainly a d (z ∙ ap slots_taken (sym t))
+    go (Some u) f = sends_greeting a x v (message (take a.node).node j.inc (Greet (welcome_of (take a.node).node u v))) d z t (greets_one v u (take a.node).node x j e y f)
 
 comes_online : (c : Bool) (a : Member) → Moves a (elim c [ true ↦ push (Is Online OwnOnline) a | false ↦ a ])
 comes_online true a = Leaves (Is Online OwnOnline) a refl
@@ -179,66 +159,56 @@ add_plain a t p b v j y h = void_plain b (subst (λ u. effect_of a.setup a.life 
     as_add : v ≡ record { id = v.id; what = Add j }
     as_add = λ i. record { id = v.id; what = y i }
 
-moves_plain : (a : Member) (x : SlotEntry) (w : Turns) (p : ℕ) (b : Bool) → (take a.node).took ≡ x ∷ [] → a.node.turns ≡ Some w → became (reading_of a.node.turns) x.value ≡ KeptAt p b →
+moves_plain : (a : Member) (x : Taken) (p : ℕ) (b : Bool) → (take a.node).took ≡ x ∷ [] → x.kept ≡ KeptAt p b →
     (entry_of a.setup a.life x.slot p b x.value).effect ≡ Plain →
     Moves a (on_plain x.value.id.origin x.value.what (entry_of a.setup a.life x.slot p b x.value).holds (push (Took (entry_of a.setup a.life x.slot p b x.value)) (by_node take a)))
-moves_plain a x w p b t k q h = go x.value.what refl
+moves_plain a x p b t k h = go x.value.what refl
   where
     e : Entry
     e = entry_of a.setup a.life x.slot p b x.value
-
     c : Member
     c = push (Took e) (by_node take a)
-
     taken : Moves a c
-    taken = reads_plainly a (Took e) (sym t)
-
+    taken = reads_plainly a (Took e) (ap slots_taken (sym t))
     falls : (z : Bool) → Moves c (elim z [ true ↦ fall Removed c | false ↦ c ])
     falls true = moves_fall Removed c
     falls false = Stays c
-
+    in_effect : b ≡ true → takes_effect x.kept ≡ true
+    in_effect z = ap takes_effect k ∙ z
     go : (y : What) → x.value.what ≡ y → Moves a (on_plain x.value.id.origin y e.holds c)
-    go (Add j) f = moves_greeting a x w p b j (Took e) refl t k q (add_plain a x.slot p b x.value j f h) f (is_up (state c.life) && not (inc_eq j.inc c.me.inc))
+    go (Add j) f = moves_greeting a x j (Took e) refl t (in_effect (add_plain a x.slot p b x.value j f h)) f (is_up (state c.life) && not (inc_eq j.inc c.me.inc))
     go (Remove i) f = Then taken (falls (inc_eq i c.me.inc))
     go Noop f = Then taken (moves_on_noop x.value.id.origin e.holds c)
     go (Says z) f = Then taken (moves_on_body x.value.id.origin z e.holds c)
 
-moves_kept : (a : Member) (x : SlotEntry) (w : Turns) (p : ℕ) (b : Bool) → (take a.node).took ≡ x ∷ [] → a.node.turns ≡ Some w → became (reading_of a.node.turns) x.value ≡ KeptAt p b →
-    Moves a (take_kept x.slot x.value (KeptAt p b) (by_node take a))
-moves_kept a x w p b t k q = go e.effect refl
+moves_kept : (a : Member) (x : Taken) (p : ℕ) (b : Bool) → (take a.node).took ≡ x ∷ [] → x.kept ≡ KeptAt p b → Moves a (take_kept x.slot x.value (KeptAt p b) (by_node take a))
+moves_kept a x p b t k = go e.effect refl
   where
     e : Entry
     e = entry_of a.setup a.life x.slot p b x.value
-
     c : Member
     c = push (Took e) (by_node take a)
-
     taken : Moves a c
-    taken = reads_plainly a (Took e) (sym t)
-
+    taken = reads_plainly a (Took e) (ap slots_taken (sym t))
     go : (f : Effect) → e.effect ≡ f → Moves a (causes e f c)
-    go Plain h = moves_plain a x w p b t k q h
+    go Plain h = moves_plain a x p b t k h
     go Void h = taken
     go Unread h = taken
     go (Positive g) h = taken
     go (Conflict g) h = Then taken (moves_on_conflict x.value.id g c)
 
-moves_slot : (a : Member) (x : SlotEntry) (xs : List SlotEntry) → (take a.node).took ≡ x ∷ xs → Moves a (take_slot (reading_of a.node.turns) x (by_node take a))
-moves_slot a x xs t = go (became (reading_of a.node.turns) x.value) refl
+moves_slot : (a : Member) (x : Taken) (xs : List Taken) → (take a.node).took ≡ x ∷ xs → Moves a (take_slot x (by_node take a))
+moves_slot a x xs t = go x.kept refl
   where
-    one : TookOne a.node x xs
-    one = took_one a.node x xs t
-
     alone : (take a.node).took ≡ x ∷ []
-    alone = t ∙ ap (λ l. x ∷ l) one.alone
-
-    go : (r : Became) → became (reading_of a.node.turns) x.value ≡ r → Moves a (take_kept x.slot x.value r (by_node take a))
-    go IsSkipped q = reads_plainly a (Skips x.slot x.value) (sym alone)
-    go (KeptAt p b) q = moves_kept a x one.turns p b alone one.known q
+    alone = t ∙ ap (λ l. x ∷ l) (took_one a.node x xs t)
+    go : (r : Kept) → x.kept ≡ r → Moves a (take_kept x.slot x.value r (by_node take a))
+    go IsSkipped q = reads_plainly a (Skips x.slot x.value) (ap slots_taken (sym alone))
+    go (KeptAt p b) q = moves_kept a x p b alone q
 
 -- ---- all slots
 
-next_took : (a : Member) (x : SlotEntry) (xs : List SlotEntry) → next_slot a ≡ x ∷ xs → (take a.node).took ≡ x ∷ xs
+next_took : (a : Member) (x : Taken) (xs : List Taken) → next_slot a ≡ x ∷ xs → (take a.node).took ≡ x ∷ xs
 next_took a x xs e = go (takes_slots a.life) e
   where
     go : (b : Bool) → elim b [ true ↦ (take a.node).took | false ↦ [] ] ≡ x ∷ xs → (take a.node).took ≡ x ∷ xs
@@ -247,17 +217,17 @@ next_took a x xs e = go (takes_slots a.life) e
 
 moves_take_slots : (k : ℕ) (a : Member) → Moves a (take_slots k a)
 moves_take_slots zero a = Stays a
-moves_take_slots (suc k) a = go (next_slot a) refl (λ x. moves_take_slots k (point (take_slot (reading_of a.node.turns) x (by_node take a))))
+moves_take_slots (suc k) a = go (next_slot a) refl (λ x. moves_take_slots k (point (take_slot x (by_node take a))))
   where
-    go : (xs : List SlotEntry) → next_slot a ≡ xs → ((x : SlotEntry) → Moves (point (take_slot (reading_of a.node.turns) x (by_node take a))) (take_slots k (point (take_slot (reading_of a.node.turns) x (by_node take a))))) → Moves a (elim xs [ [] ↦ a | x ∷ xs ↦ take_slots k (point (take_slot (reading_of a.node.turns) x (by_node take a))) ])
+    go : (xs : List Taken) → next_slot a ≡ xs → ((x : Taken) → Moves (point (take_slot x (by_node take a))) (take_slots k (point (take_slot x (by_node take a))))) → Moves a (elim xs [ [] ↦ a | x ∷ xs ↦ take_slots k (point (take_slot x (by_node take a))) ])
     go [] e h = Stays a
-    go (x ∷ xs) e h = Then (moves_slot a x xs (next_took a x xs e)) (Then (moves_point (take_slot (reading_of a.node.turns) x (by_node take a))) (h x))
+    go (x ∷ xs) e h = Then (moves_slot a x xs (next_took a x xs e)) (Then (moves_point (take_slot x (by_node take a))) (h x))
 
 moves_rounds : (k : ℕ) (a : Member) → Moves a (rounds k a)
 moves_rounds zero a = Stays a
 moves_rounds (suc k) a = go (next_slot a) (moves_rounds k (propose (take_slots (2 ^ 42) a)))
   where
-    go : (xs : List SlotEntry) → Moves (propose (take_slots (2 ^ 42) a)) (rounds k (propose (take_slots (2 ^ 42) a))) → Moves a (elim xs [ [] ↦ a | x ∷ xs ↦ rounds k (propose (take_slots (2 ^ 42) a)) ])
+    go : (xs : List Taken) → Moves (propose (take_slots (2 ^ 42) a)) (rounds k (propose (take_slots (2 ^ 42) a))) → Moves a (elim xs [ [] ↦ a | x ∷ xs ↦ rounds k (propose (take_slots (2 ^ 42) a)) ])
     go [] h = Stays a
     go (x ∷ xs) h = Then (moves_take_slots (2 ^ 42) a) (Then (moves_propose (take_slots (2 ^ 42) a)) h)
 

@@ -1,5 +1,5 @@
 -- How a member comes to be another one: by acts of its node, by things left in its history, and by messages that aren't its node's.
-use Rattle.std.specs.Prelude.{◌≡◌, ◌⊎◌, ℕ, Bool, true, false, Option, List, [], ◌∷◌, ◌++◌, ◌==◌}
+use Rattle.std.specs.Prelude.{◌≡◌, ◌⊎◌, ℕ, Bool, true, false, Option, List, [], ◌∷◌, ◌++◌, ◌==◌, map}
 use Rattle.gr_ids.specs.declared.names.Inc.{Inc}
 use Rattle.slot_values.specs.declared.value.Value.{Value}
 use Rattle.paxos_forms.specs.declared.message.Message.{Message}
@@ -9,7 +9,7 @@ use Rattle.txn_forms.specs.declared.body.Body.{Body}
 use Rattle.node_rules.specs.declared.event.PaxosEvent.TheVariants.{Heard}
 use Rattle.node_rules.specs.Lists.{In}
 use Rattle.node_rules.specs.Node.{Effect}
-use Rattle.node_rules.specs.Slots.{Entry as SlotEntry}
+use Rattle.node_rules.specs.declared.taken.Taken.{Taken}
 use Rattle.node_rules.specs.Taking.{take}
 use Rattle.node_rules.specs.Welcoming.{Shown}
 use Rattle.node_rules.specs.World.{Act, Owns, Takes, does, does_all, made_by, all_made_by}
@@ -29,10 +29,18 @@ abbrev pub acts : Act → Member → Member
 acts x a = by_node (does a.me.inc x) a
 
 -- the slot that was taken or skipped, and its value
-abbrev pub slots_of : Did → List SlotEntry
+pub record Slot : Type 0 where
+  pub slot : ℕ
+  pub value : Value
+
+abbrev pub slots_of : Did → List Slot
 slots_of (Took e) = record { slot = e.slot; value = e.value } ∷ []
 slots_of (Skips t v) = record { slot = t; value = v } ∷ []
 slots_of d = []
+
+-- those that a node handed out
+abbrev pub slots_taken : List Taken → List Slot
+slots_taken xs = map {A = Taken} (λ x. record { slot = x.slot; value = x.value }) xs
 
 -- One thing after another. An own value is made and is the node's own; a slot is taken by the node and by the member.
 pub data Moves : Member → Member → Type 0 where
@@ -41,7 +49,7 @@ pub data Moves : Member → Member → Type 0 where
   Sends : (i : Inc) (x : Wire) (a : Member) → is_apart x ≡ true → Moves a (send i x a)
   Acts : (x : Act) (a : Member) → made_by a.me.inc x ≡ [] → Moves a (acts x a)
   Makes : (v : Value) (holds : Option Body) (a : Member) → v.id.origin ≡ a.me.inc → Moves a (acts (Owns v) (push (Made v holds) a))
-  Reads : (s : Option Shown) (d : Did) (a : Member) → slots_of d ≡ (take a.node).took → Moves a (push d (acts (Takes s) a))
+  Reads : (s : Option Shown) (d : Did) (a : Member) → slots_of d ≡ slots_taken (take a.node).took → Moves a (push d (acts (Takes s) a))
   Then : {a b c : Member} → Moves a b → Moves b c → Moves a c
 
 -- the messages of the step before are gone
@@ -60,7 +68,7 @@ pub record IsActs (a b : Member) : Type 0 where
   pub sent : (m : Message) → In m b.sent → In m a.sent ⊎ (In m (does_all a.me.inc acts a.node).sent ⊎ (is_apart m.wire ≡ true))
   pub more : Life
   pub grown : b.life ≡ more ++ a.life
-  pub took : (d : Did) (x : SlotEntry) → In d more → In x (slots_of d) → In x (does_all a.me.inc acts a.node).took
+  pub took : (d : Did) (x : Slot) → In d more → In x (slots_of d) → In x (slots_taken (does_all a.me.inc acts a.node).took)
   pub made : (v : Value) → In v (all_made_by a.me.inc acts) → (holds : Option Body) × In (Made v holds) more
   pub me : b.me ≡ a.me
   pub setup : b.setup ≡ a.setup

@@ -4,7 +4,8 @@ use Rattle.gr_ids.specs.Names.{inc_eq}
 use Rattle.gtid_sets.specs.Sets.{Gtids, has}
 use Rattle.key_items.specs.Items.{item_eq}
 use Rattle.slot_values.specs.Values.{is_noop}
-use Rattle.slot_values.specs.Log.{became, Skips as IsSkipped}
+use Rattle.slot_values.specs.Log.{became}
+use Rattle.slot_values.specs.declared.kept.Kept.TheVariants.{Skipped as IsSkipped}
 use Rattle.node_rules.specs.Lists.{In}
 use Rattle.group_rules.specs.Names.{Inc, Item, Change, Joiner, Level, Value, Add, Txn, Body, Writes as HasTxn, Welcome, CommittedAs}
 use Rattle.group_rules.specs.View.{is_seated}

@@ -45,7 +45,7 @@ wires w = map (λ m. (m.from.server, m.to.server, kind m.wire)) w.wire
 
 -- the slots taken: by whom, the slot, the number of its value
 abbrev taken : World → List (ℕ × ℕ × ℕ)
-taken w = map (λ x. (x.by.server, x.entry.slot, x.entry.value.id.number)) w.took
+taken w = map (λ x. (x.by.server, x.taken.slot, x.taken.value.id.number)) w.took
 
 abbrev place_of : Option Node → ℕ
 place_of None = 0
