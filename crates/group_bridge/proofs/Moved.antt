@@ -78,8 +78,10 @@ moves_own w holds a = go (inc_eq a.me.inc a.me.inc) (inc_same a.me.inc) (Makes v
   where
     v : Value
     v = record { id = next_id a; what = w }
+
     b : Member
     b = push (Made v holds) a
+
     go : (c : Bool) → c ≡ true → Moves a (by_node (λ n. if c then node_step (Own v) n else quiet n) b) → Moves a (at_node (Own v) b)
     go true e m = m
     go false e m = absurd (false≢true e)

@@ -101,6 +101,7 @@ sends_greeting a x v g d z t h = subst (λ s. Moves a (push d (record a { node =
   where
     one : flat_map (greets (Some v) (take a.node).node) (take a.node).took ≡ g ∷ []
     one = ap (λ l. flat_map (greets (Some v) (take a.node).node) l) t ∙ (append_nil (greets (Some v) (take a.node).node x) ∙ h)
+
     eq : a.sent ++ ((take a.node).sent ++ flat_map (greets (Some v) (take a.node).node) (take a.node).took) ≡ (a.sent ++ (take a.node).sent) ++ g ∷ []
     eq = ap (λ l. a.sent ++ ((take a.node).sent ++ l)) one ∙ sym (append_assoc a.sent (take a.node).sent (g ∷ []))
 
@@ -122,6 +123,7 @@ moves_greeting a x j d z t e y true = go (take a.node).node.turns refl
   where
     v : Shown
     v = shown (view a.setup (d ∷ a.life))
+
     go : (o : Option Turns) → (take a.node).node.turns ≡ o → Moves a (greet_by j.inc o (push d (by_node take a)))
     go None f = reads_plainly a d (z ∙ ap slots_taken (sym t))
     go (Some u) f = sends_greeting a x v (message (take a.node).node j.inc (Greet (welcome_of (take a.node).node u v))) d z t (greets_one v u (take a.node).node x j e y f)
@@ -166,15 +168,20 @@ moves_plain a x p b t k h = go x.value.what refl
   where
     e : Entry
     e = entry_of a.setup a.life x.slot p b x.value
+
     c : Member
     c = push (Took e) (by_node take a)
+
     taken : Moves a c
     taken = reads_plainly a (Took e) (ap slots_taken (sym t))
+
     falls : (z : Bool) → Moves c (elim z [ true ↦ fall Removed c | false ↦ c ])
     falls true = moves_fall Removed c
     falls false = Stays c
+
     in_effect : b ≡ true → takes_effect x.kept ≡ true
     in_effect z = ap takes_effect k ∙ z
+
     go : (y : What) → x.value.what ≡ y → Moves a (on_plain x.value.id.origin y e.holds c)
     go (Add j) f = moves_greeting a x j (Took e) refl t (in_effect (add_plain a x.slot p b x.value j f h)) f (is_up (state c.life) && not (inc_eq j.inc c.me.inc))
     go (Remove i) f = Then taken (falls (inc_eq i c.me.inc))
@@ -186,10 +193,13 @@ moves_kept a x p b t k = go e.effect refl
   where
     e : Entry
     e = entry_of a.setup a.life x.slot p b x.value
+
     c : Member
     c = push (Took e) (by_node take a)
+
     taken : Moves a c
     taken = reads_plainly a (Took e) (ap slots_taken (sym t))
+
     go : (f : Effect) → e.effect ≡ f → Moves a (causes e f c)
     go Plain h = moves_plain a x p b t k h
     go Void h = taken
@@ -202,6 +212,7 @@ moves_slot a x xs t = go x.kept refl
   where
     alone : (take a.node).took ≡ x ∷ []
     alone = t ∙ ap (λ l. x ∷ l) (took_one a.node x xs t)
+
     go : (r : Kept) → x.kept ≡ r → Moves a (take_kept x.slot x.value r (by_node take a))
     go IsSkipped q = reads_plainly a (Skips x.slot x.value) (ap slots_taken (sym alone))
     go (KeptAt p b) q = moves_kept a x p b alone q
