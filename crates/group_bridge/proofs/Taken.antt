@@ -1,7 +1,7 @@
 -- Taking a slot is an act of the node, with the Welcome that it causes; and so is a whole step.
-use Rattle.std.proofs.Common.{◌≡◌, ◌⊎◌, inl, inr, ℕ, zero, suc, Bool, true, false, Option, Some, None, List, [], ◌∷◌, ◌++◌, refl, sym, ap, subst, ◌∙◌}
+use Rattle.std.proofs.Common.{◌≡◌, inl, inr, ℕ, zero, suc, Bool, true, false, Option, Some, None, List, [], ◌∷◌, ◌++◌, refl, sym, ap, subst, ◌∙◌}
 use Rattle.std.proofs.lemmas.Bool.{false≢true}
-use Rattle.std.specs.Prelude.{◌^◌, ◌+◌, ◌&&◌, not, flat_map, if◌then◌else◌}
+use Rattle.std.specs.Prelude.{◌^◌, ◌&&◌, not, flat_map, if◌then◌else◌}
 use Rattle.gr_ids.specs.Names.{inc_eq}
 use Rattle.gr_ids.specs.declared.names.Inc.{Inc}
 use Rattle.gr_ids.specs.declared.levels.MemberState.TheVariants.{Online}
@@ -26,21 +26,19 @@ use Rattle.node_rules.specs.declared.event.PaxosEvent.TheVariants.{Heard}
 use Rattle.node_rules.specs.Slots.{Entry as SlotEntry}
 use Rattle.node_rules.specs.Learner.{next_entry}
 use Rattle.node_rules.specs.Node.{Node, message, takes_effect}
-use Rattle.node_rules.specs.Node.{Effect as NodeEffect}
 use Rattle.node_rules.specs.Taking.{take, take_next}
 use Rattle.node_rules.specs.Welcoming.{Shown, welcome_of}
-use Rattle.node_rules.specs.World.{Takes, takes, greets, greet_by as node_greets}
+use Rattle.node_rules.specs.World.{greets, greet_by as node_greets}
 use Rattle.group_rules.specs.View.{shown, void_if}
 use Rattle.group_rules.specs.Events.{Did, Took, Skips, Is, Came, Replied, Entry, Event, Hears, Ticks, Works, Calls, Operates}
 use Rattle.group_rules.specs.Life.{state, is_up, is_error, view}
-use Rattle.group_rules.specs.Member.{Member, push, send, by_node, at_node, fall}
+use Rattle.group_rules.specs.Member.{Member, push, by_node, at_node, fall}
 use Rattle.group_rules.specs.Parts.{open_parts, held}
-use Rattle.group_rules.specs.Queue.{at_place, queue}
-use Rattle.group_rules.specs.Welcomes.{greet, greet_by}
+use Rattle.group_rules.specs.Welcomes.{greet_by}
 use Rattle.group_rules.specs.Points.{point}
 use Rattle.group_rules.specs.Taking.{entry_of, effect_of, on_plain, causes, take_kept, take_slot, next_slot, takes_slots, take_slots, propose, rounds, settle_slots}
 use Rattle.group_rules.specs.Steps.{hear_wire, hear_in_error, act_alive, act_in_error, act, held_mark, step}
-use Rattle.group_bridge.specs.Moves.{slots_of, slots_taken, Moves, Stays, Leaves, Sends, Acts, Reads, Then, acts, cleared, Begins}
+use Rattle.group_bridge.specs.Moves.{slots_of, slots_taken, Moves, Stays, Leaves, Reads, Then, cleared, Begins}
 use Rattle.group_bridge.proofs.Moved.{moves_fall, moves_on_conflict, moves_point, moves_propose, moves_after_offer, moves_after_welcome, moves_after_other, moves_ask, moves_give, moves_tick_once, moves_work, moves_session, moves_operator, moves_held}
 
 -- ---- lists
