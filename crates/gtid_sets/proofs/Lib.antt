@@ -4,3 +4,4 @@ pub mod Members
 pub mod Searching
 pub mod PutLemmas
 pub mod PartLemmas
+pub mod UnionLemmas

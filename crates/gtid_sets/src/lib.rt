@@ -7,6 +7,7 @@ mod run;
 mod search;
 mod set;
 mod told;
+mod union;
 
 pub use run::Run;
 pub use set::GtidSet;
