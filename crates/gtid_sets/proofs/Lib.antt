@@ -5,3 +5,4 @@ pub mod Searching
 pub mod PutLemmas
 pub mod PartLemmas
 pub mod UnionLemmas
+pub mod StepLemmas

@@ -1,5 +1,5 @@
 -- Where a GTID stands among the runs of a set.
-use Rattle.std.specs.Prelude.{◌≡◌, ℕ, zero, suc, Bool, true, false, List, [], ◌∷◌, nat_le, if◌then◌else◌}
+use Rattle.std.specs.Prelude.{◌≡◌, ℕ, zero, suc, Bool, true, false, List, [], ◌∷◌, nat_lt, nat_le, if◌then◌else◌}
 use Rattle.gr_ids.specs.declared.names.Gtid.{Gtid}
 use Rattle.gr_ids.specs.Names.{bytes_eq, bytes_lt}
 use Rattle.gtid_sets.specs.Canonical.{IsRun}
@@ -33,3 +33,11 @@ StartBefore xs (r ∷ rs) = StartBy xs r
 abbrev pub AreInOrder : Gtids → Type 0
 AreInOrder [] = Unit {0}
 AreInOrder (r ∷ rs) = IsRun r × StartBefore (r ∷ []) rs × AreInOrder rs
+
+-- whether all of a run stands before all of another one
+abbrev pub precedes : Run → Run → Bool
+precedes a b = if bytes_eq a.source b.source then nat_lt a.last b.first else bytes_lt a.source b.source
+
+-- whether a run ends before another one does
+abbrev pub ends_first : Run → Run → Bool
+ends_first a b = if bytes_eq a.source b.source then nat_lt a.last b.last else bytes_lt a.source b.source

@@ -3,6 +3,7 @@
 
 mod adding;
 mod fits;
+mod parts;
 mod run;
 mod search;
 mod set;

@@ -14,7 +14,7 @@ impl Run {
     ghost use Rattle.std.specs.Prelude.{◌≡◌};
     ghost use Rattle.gtid_sets.specs.Sets.{single, in_run, before_run, joined, covers};
     ghost use Rattle.gtid_sets.specs.Canonical.{IsUuid};
-    ghost use Rattle.gtid_sets.specs.Places.{starts_by};
+    ghost use Rattle.gtid_sets.specs.Places.{starts_by, precedes, ends_first};
 
     /// The run of one GTID.
     pub(crate) fn single(gtid: Gtid) -> Run
@@ -72,6 +72,26 @@ impl Run {
     {
         if self.source == other.source {
             return self.first <= other.first;
+        }
+        self.source < other.source
+    }
+
+    /// Whether all of it stands before all of the other one.
+    pub(crate) fn precedes(&self, other: &Run) -> bool
+        ensures { result ≡ precedes self.now other.now }
+    {
+        if self.source == other.source {
+            return self.last < other.first;
+        }
+        self.source < other.source
+    }
+
+    /// Whether it ends before the other one does.
+    pub(crate) fn ends_first(&self, other: &Run) -> bool
+        ensures { result ≡ ends_first self.now other.now }
+    {
+        if self.source == other.source {
+            return self.last < other.last;
         }
         self.source < other.source
     }
