@@ -1,12 +1,12 @@
 -- The steps of a walk over the runs of two sets side by side.
-use Rattle.std.proofs.Common.{◌≡◌, ℕ, zero, suc, ◌+◌, ◌-◌, ◌<◌, ◌≤◌, Bool, true, false, cond, not, ◌&&◌, ◌||◌, ◌⊎◌, List, [], ◌∷◌, ◌++◌, length, get_or, take, drop, refl, sym, ap, subst, ◌∙◌, inl, inr, arith, eqb, ltb, leb, append_assoc}
+use Rattle.std.proofs.Common.{◌≡◌, ℕ, zero, suc, ◌+◌, ◌-◌, ◌*◌, ◌<◌, ◌≤◌, Bool, true, false, cond, not, ◌&&◌, ◌||◌, ◌⊎◌, List, [], ◌∷◌, ◌++◌, length, get_or, take, drop, refl, sym, ap, subst, ◌∙◌, inl, inr, arith, eqb, ltb, leb, append_assoc}
 use Rattle.std.specs.List.{flat_map, list_any, list_all}
 use Rattle.std.proofs.lemmas.Bool.{cases_Bool, false≢true, or_from, and_left, and_right, and_parts, lt-ltb, le-ltb}
 use Rattle.std.proofs.lemmas.Bool.Decides.{nat_tests}
 use Rattle.std.proofs.lemmas.List.{drop_more, drop_all, append-nil}
 use Rattle.byte_forms.specs.Numbers.{number_of}
 use Rattle.std.specs.Str.{bytes_eq}
-use Rattle.gtid_sets.specs.Sets.{Run, Gtids, before_run, common, meet, below, above, cut_out, minus, covers, subset}
+use Rattle.gtid_sets.specs.Sets.{Run, Gtids, before_run, common, meet, below, above, cut_out, minus, covers, subset, count_of}
 use Rattle.gtid_sets.specs.Canonical.{IsUuid, IsRun, IsBefore, IsCanonical}
 use Rattle.gtid_sets.specs.Places.{precedes, ends_first}
 use Rattle.gtid_sets.proofs.Keys.{bytes_eq-key, bytes_lt-key, before_run-key}
@@ -286,3 +286,70 @@ minus_step a b out new i j k d lt ha e later =
 
 pub regroup : (new out x y z w : Gtids) → new ≡ out ++ x → z ≡ x ++ y → out ++ z ≡ w → new ++ y ≡ w
 regroup new out x y z w a b c = ap (λ xs. xs ++ y) a ∙ append_assoc out x y ∙ ap (λ xs. out ++ xs) (sym b) ∙ c
+
+-- ---- whether the second has all that the first has
+
+covers_none : (r q : Run) → IsRun r → IsRun q → precedes q r ≡ true → covers r q ≡ false
+covers_none r q hr hq p =
+    let kp = sym (precedes-key q r hq hr) ∙ p in
+    let ks = bytes_eq-key q.source r.source hq.uuid hr.uuid in
+    grind (arith, nat_tests, kp, ks, hr.ordered, hq.ordered)
+
+-- a run that precedes the first of some covers none of them
+subset_skip : (q r : Run) (rs qs : Gtids) → IsRun q → IsCanonical (r ∷ rs) → precedes q r ≡ true → subset (r ∷ rs) (q ∷ qs) ≡ subset (r ∷ rs) qs
+subset_skip q r [] qs hq hs p = rw (covers_none r q hs.0 hq p) refl
+subset_skip q r (s ∷ ss) qs hq hs p =
+    let later = subset_skip q s ss qs hq hs.2 (precedes_before q r s hq hs.0 hs.2.0 p hs.1) in
+    rw (covers_none r q hs.0 hq p) (ap (λ t. list_any (covers r) qs && t) later)
+
+-- one that doesn't precede the run, and doesn't cover it, is followed by none that does
+covers_later : (r q : Run) (qs : Gtids) → IsRun r → IsCanonical (q ∷ qs) → precedes q r ≡ false → covers r q ≡ false → list_any (covers r) (q ∷ qs) ≡ false
+covers_later r q qs hr hq p h = or_from (covers r q) (list_any (covers r) qs) h (none qs hq.1 hq.2)
+  where
+    none : (xs : Gtids) → IsBefore q xs → IsCanonical xs → list_any (covers r) xs ≡ false
+    none [] b hx = refl
+    none (x ∷ xs) b hx =
+        let kp = sym (precedes-key q r hq.0 hr) ∙ p in
+        let kb = sym (before_run-key q x hq.0 hx.0) ∙ b in
+        let ks = bytes_eq-key x.source r.source hx.0.uuid hr.uuid in
+        let here : covers r x ≡ false = grind (arith, nat_tests, kp, kb, ks) in
+        or_from (covers r x) (list_any (covers r) xs) here (none xs (before_head q x xs hq.0 b hx) hx.2)
+
+pub subset_step_skip : (a b : Gtids) (i j : ℕ) (d : Run) → i < length a → j < length b → IsCanonical a → IsCanonical b → true ≡ precedes (get_or b j d) (get_or a i d) → subset (drop i a) (drop (j + 1) b) ≡ subset (drop i a) (drop j b)
+subset_step_skip a b i j d li lj ha hb p =
+    let sa = drop_more a i d li in
+    let sb = drop_more b j d lj in
+    let step = subset_skip (get_or b j d) (get_or a i d) (drop (i + 1) a) (drop (j + 1) b) (parts_of b j d lj hb).0 (parts_of a i d li ha) (sym p) in
+    sym (ap (λ xs. subset xs (drop j b)) sa ∙ ap (subset (get_or a i d ∷ drop (i + 1) a)) sb ∙ step ∙ ap (λ xs. subset xs (drop (j + 1) b)) (sym sa))
+
+pub subset_step_covered : (a b : Gtids) (i j : ℕ) (d : Run) → i < length a → j < length b → true ≡ covers (get_or a i d) (get_or b j d) → subset (drop (i + 1) a) (drop j b) ≡ subset (drop i a) (drop j b)
+subset_step_covered a b i j d li lj c =
+    let sa = drop_more a i d li in
+    let sb = drop_more b j d lj in
+    let here : list_any (covers (get_or a i d)) (drop j b) ≡ true = ap (list_any (covers (get_or a i d))) sb ∙ ap (λ t. t || list_any (covers (get_or a i d)) (drop (j + 1) b)) (sym c) in
+    sym (ap (λ xs. subset xs (drop j b)) sa ∙ ap (λ t. t && subset (drop (i + 1) a) (drop j b)) here)
+
+pub subset_step_not : (a b : Gtids) (i j : ℕ) (d : Run) → i < length a → j < length b → IsCanonical a → IsCanonical b → false ≡ precedes (get_or b j d) (get_or a i d) → false ≡ covers (get_or a i d) (get_or b j d) → subset (drop i a) (drop j b) ≡ false
+subset_step_not a b i j d li lj ha hb p c =
+    let sa = drop_more a i d li in
+    let sb = drop_more b j d lj in
+    let none = covers_later (get_or a i d) (get_or b j d) (drop (j + 1) b) (parts_of a i d li ha).0 (parts_of b j d lj hb) (sym p) (sym c) in
+    let here : list_any (covers (get_or a i d)) (drop j b) ≡ false = ap (list_any (covers (get_or a i d))) sb ∙ none in
+    ap (λ xs. subset xs (drop j b)) sa ∙ ap (λ t. t && subset (drop (i + 1) a) (drop j b)) here
+
+pub subset_step_end : (a b : Gtids) (i j : ℕ) (d : Run) → i < length a → length b ≤ j → subset (drop i a) (drop j b) ≡ false
+subset_step_end a b i j d li le = ap (subset (drop i a)) (drop_all j b le) ∙ ap (λ xs. subset xs []) (drop_more a i d li)
+
+-- ---- how many there are
+
+pub count_below : (s : Gtids) (i : ℕ) → IsCanonical s → count_of (take i s) ≤ i * 9223372036854775808
+count_below s zero h = omega arith
+count_below [] (suc i) h = omega arith
+count_below (r ∷ rs) (suc i) h = omega (arith, count_below rs i h.2, h.0.bounded, h.0.positive)
+
+pub count_more : (s : Gtids) (i : ℕ) (d : Run) → i < length s → count_of (take (i + 1) s) ≡ count_of (take i s) + (((get_or s i d).last + 1) - (get_or s i d).first)
+count_more [] i d lt = absurd (omega arith)
+count_more (r ∷ rs) zero d lt = omega arith
+count_more (r ∷ rs) (suc i) d lt =
+    let more : suc i + 1 ≡ suc (i + 1) = omega arith in
+    ap (λ k. count_of (take k (r ∷ rs))) more ∙ omega (arith, count_more rs i d (omega arith))

@@ -9,6 +9,7 @@ mod search;
 mod set;
 mod told;
 mod union;
+mod whole;
 
 pub use run::Run;
 pub use set::GtidSet;
