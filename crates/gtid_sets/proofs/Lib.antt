@@ -4,3 +4,5 @@ pub mod Members
 pub mod Searching
 pub mod PutLemmas
 pub mod PartLemmas
+pub mod UnionLemmas
+pub mod StepLemmas

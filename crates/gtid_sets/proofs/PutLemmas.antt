@@ -10,7 +10,7 @@ use Rattle.gtid_sets.specs.Sets.{Run, Gtids, single, in_run, has, before_run, jo
 use Rattle.gtid_sets.specs.Canonical.{IsUuid, IsRun, IsBefore, IsCanonical, IsNumber}
 use Rattle.gtid_sets.specs.Places.{runs_before, joined_next}
 use Rattle.gtid_sets.proofs.Keys.{bytes_eq-key, bytes_lt-key, in_run-key, before_run-key}
-use Rattle.gtid_sets.proofs.RunLemmas.{Touch, before_head, joined_run, touch, with_run-before, with_run-after, with_run-touch, canonical_with_run}
+use Rattle.gtid_sets.proofs.RunLemmas.{Touch, before_head, joined_run, touch, with_run-before, with_run-after, with_run-touch, canonical_with_run, canonical_drop}
 use Rattle.gtid_sets.proofs.Searching.{at_place, with_gtid_at, before_single-key}
 
 -- ---- a run in the place of another
@@ -64,11 +64,6 @@ put_between s g i d r hg hs e er ed lt hd =
     let here : with_run (drop i s) (single g) ≡ single g ∷ drop i s = ap (λ xs. with_run xs (single g)) split ∙ with_run-before (get_or s i d) (drop (i + 1) s) (single g) before ∙ ap (λ xs. single g ∷ xs) (sym split) in
     let at : with_gtid s g ≡ take i s ++ with_run (drop i s) (single g) = with_gtid_at s g hg hs ∙ ap (λ k. take k s ++ with_run (drop k s) (single g)) (sym e) in
     ap (λ x. take i s ++ x ∷ drop i s) er ∙ sym (at ∙ ap (λ xs. take i s ++ xs) here)
-
-canonical_drop : (s : Gtids) (i : ℕ) → IsCanonical s → IsCanonical (drop i s)
-canonical_drop s zero h = h
-canonical_drop [] (suc i) h = tt
-canonical_drop (r ∷ rs) (suc i) h = canonical_drop rs i h.2
 
 -- a run that reaches no further than the one that it joins touches at most the next one
 joins_next : (r : Run) (rs : Gtids) (g : Gtid) → IsUuid g.source → IsNumber g.number → IsCanonical (r ∷ rs) → before_run (single g) r ≡ false → before_run r (single g) ≡ false → with_run rs (joined (single g) r) ≡ joined_next (joined (single g) r) rs

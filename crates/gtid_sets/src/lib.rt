@@ -3,10 +3,13 @@
 
 mod adding;
 mod fits;
+mod parts;
 mod run;
 mod search;
 mod set;
 mod told;
+mod union;
+mod whole;
 
 pub use run::Run;
 pub use set::GtidSet;
