@@ -4,7 +4,8 @@ use Rattle.gr_ids.specs.Names.{inc_eq}
 use Rattle.gtid_sets.specs.Sets.{Gtids, has}
 use Rattle.key_items.specs.Items.{item_eq}
 use Rattle.slot_values.specs.Values.{is_noop}
-use Rattle.slot_values.specs.Log.{became, Skips as IsSkipped}
+use Rattle.slot_values.specs.Log.{became}
+use Rattle.slot_values.specs.declared.kept.Kept.TheVariants.{Skipped as IsSkipped}
 use Rattle.node_rules.specs.Lists.{In}
 use Rattle.group_rules.specs.Names.{Inc, Gtid, Item, Change, Joiner, Level, Eventual, Value, What, Add, Txn, Body, Writes as HasTxn, Welcome, CommittedAs}
 use Rattle.group_rules.specs.View.{View, is_seated}
@@ -114,8 +115,8 @@ AfterLaw s k w =
     (i : Inc) (p : Past) (c : Cert) → (a : AcknowledgedAt k w i p c) →
     (complete s (taken_of k i p) c ≡ true)
     × ((m : Inc) (begun called : Past) (level : Level) (set : Gtids) (sync : Option ℕ) → BegunAt w m begun called level set sync →
-      IsPast (Does i (Answered a.session (CommittedAs c.gtid)) ∷ p) called → is_up (state (life_in called m)) ≡ true → is_seated (view s (taken_of k i p)) m ≡ true →
-      has set c.gtid ≡ true)
+    IsPast (Does i (Answered a.session (CommittedAs c.gtid)) ∷ p) called → is_up (state (life_in called m)) ≡ true → is_seated (view s (taken_of k i p)) m ≡ true →
+    has set c.gtid ≡ true)
 
 -- ---- failover
 

@@ -6,7 +6,9 @@ use Rattle.std.specs.List.{list_any, find}
 use Rattle.gr_ids.specs.Names.{inc_eq}
 use Rattle.gtid_sets.specs.Sets.{has}
 use Rattle.key_items.specs.Items.{has_item}
-use Rattle.slot_values.specs.Log.{Reading, Became, KeptAt, Skips as IsSkipped, became, founded, read}
+use Rattle.slot_values.specs.Log.{Reading, became, founded, read}
+use Rattle.slot_values.specs.declared.kept.Kept.{Kept}
+use Rattle.slot_values.specs.declared.kept.Kept.TheVariants.{At as KeptAt, Skipped as IsSkipped}
 use Rattle.group_rules.specs.Names.{Inc, Gtid, Limits, Value, Txn, Body, Writes, PartOf, OpenParts, Effect, Positive, Conflict}
 use Rattle.group_rules.specs.View.{effect_in, void_if}
 use Rattle.group_rules.specs.Events.{Founds, Took, Life, Setup, Entry, Cert}
@@ -61,7 +63,7 @@ abbrev pub reading_of : Setup → List Value → Reading
 reading_of s [] = founded (group_of s)
 reading_of s (v ∷ log) = read (reading_of s log) v
 
-abbrev pub listed_by : Setup → Life → ℕ → Value → Became → Life
+abbrev pub listed_by : Setup → Life → ℕ → Value → Kept → Life
 listed_by s l t v IsSkipped = l
 listed_by s l t v (KeptAt p has_effect) = Took (scan_entry s l t p has_effect v) ∷ l
 

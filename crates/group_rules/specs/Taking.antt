@@ -1,11 +1,12 @@
 -- The decided slots are taken one by one; after them a leader proposes.
 use Rattle.std.specs.Prelude.{ℕ, zero, suc, ◌^◌, Bool, true, false, ◌&&◌, ◌||◌, not, Option, Some, None, List, [], ◌∷◌}
 use Rattle.gr_ids.specs.Names.{inc_eq, id_eq}
-use Rattle.slot_values.specs.Log.{Reading, Turns, Became, KeptAt, Skips as IsSkipped, became}
+use Rattle.slot_values.specs.declared.kept.Kept.{Kept}
+use Rattle.slot_values.specs.declared.kept.Kept.TheVariants.{At as KeptAt, Skipped as IsSkipped}
 use Rattle.group_rules.specs.Names.{Inc, ValueId, Gtid, OpenParts, Online, What, Add, Remove, Value, Txn, Body, Writes, Arrives, PartOf, Effect, Plain, Conflict, OwnOnline, Removed, ConflictWith}
 use Rattle.group_rules.specs.View.{View, effect_in, void_if}
 use Rattle.node_rules.specs.declared.event.PaxosEvent.TheVariants.{Propose}
-use Rattle.node_rules.specs.Slots.{Entry as SlotEntry}
+use Rattle.node_rules.specs.declared.taken.Taken.{Taken}
 use Rattle.node_rules.specs.Taking.{take}
 use Rattle.group_rules.specs.Events.{Took, Skips, Is, Entry, Life, Setup}
 use Rattle.group_rules.specs.Life.{state, is_up, is_error, is_recovering, view, has_give}
@@ -50,34 +51,27 @@ causes e (Conflict g) a = on_conflict e.value.id g a
 causes e Plain a = on_plain e.value.id.origin e.value.what e.holds a
 causes e x a = a
 
-abbrev pub take_kept : ℕ → Value → Became → Member → Member
+abbrev pub take_kept : ℕ → Value → Kept → Member → Member
 take_kept t v IsSkipped a = push (Skips t v) a
 take_kept t v (KeptAt p has_effect) a = let e = entry_of a.setup a.life t p has_effect v in causes e e.effect (push (Took e) a)
 
 -- ---- slots
 
-abbrev pub no_reading : Reading
-no_reading = record { place = 0; members = []; ever = []; former = [] }
-
-abbrev pub reading_of : Option Turns → Reading
-reading_of None = no_reading
-reading_of (Some w) = w.reading
-
--- the slot that its node just took, which had read so much before
-abbrev pub take_slot : Reading → SlotEntry → Member → Member
-take_slot r x a = take_kept x.slot x.value (became r x.value) a
+-- the slot that its node has just handed out
+abbrev pub take_slot : Taken → Member → Member
+take_slot x a = take_kept x.slot x.value x.kept a
 
 -- a member takes slots while ONLINE, and while RECOVERING once it has taken up a Give
 abbrev pub takes_slots : Life → Bool
 takes_slots l = is_up (state l) || (is_recovering (state l) && has_give l)
 
-abbrev pub next_slot : Member → List SlotEntry
+abbrev pub next_slot : Member → List Taken
 next_slot a = elim (takes_slots a.life) [ true ↦ (take a.node).took | false ↦ [] ]
 
 -- all decided slots, one after another, with a point after each (slots end at 2^42)
 abbrev pub take_slots : ℕ → Member → Member
 take_slots zero a = a
-take_slots (suc k) a = elim (next_slot a) [ [] ↦ a | x ∷ xs ↦ take_slots k (point (take_slot (reading_of a.node.turns) x (by_node take a))) ]
+take_slots (suc k) a = elim (next_slot a) [ [] ↦ a | x ∷ xs ↦ take_slots k (point (take_slot x (by_node take a))) ]
 
 abbrev pub propose : Member → Member
 propose a = elim (is_error (state a.life)) [ true ↦ a | false ↦ at_node Propose a ]

@@ -1,6 +1,6 @@
 -- Worked runs, computed: the definitions do what the worked rows say.
-use Rattle.std.proofs.Common.{◌≡◌, ℕ, Option, Some, None, List, [], ◌∷◌, refl}
-use Rattle.std.specs.Prelude.{map, ◌==◌, if◌then◌else◌}
+use Rattle.std.proofs.Common.{◌≡◌, ℕ, Option, Some, None, List, [], ◌∷◌, ◌++◌, refl}
+use Rattle.std.specs.Prelude.{map, flat_map, ◌==◌, if◌then◌else◌}
 use Rattle.slot_values.specs.Log.{Group, read, turn}
 use Rattle.node_rules.specs.Names.{Inc, Value, What, Add, Remove, Body, Joiner, Message, Wire, Prepare, Promise, Accept, Accepted, Learn, Offer, Greet, Ask, Give, Alive, Gone, Online, Recovering, Multi}
 use Rattle.node_rules.specs.Known.{config_by}
@@ -12,7 +12,7 @@ use Rattle.node_rules.specs.Welcoming.{Shown, hear_welcome}
 use Rattle.node_rules.specs.Ticks.{tick}
 use Rattle.node_rules.specs.Taking.{take, forget}
 use Rattle.node_rules.specs.Step.{hear, node_step}
-use Rattle.node_rules.specs.World.{World, Campaigns, Ticks, Owns, Takes, Hears, Does, Starts, run}
+use Rattle.node_rules.specs.World.{World, Event, Campaigns, Ticks, Owns, Takes, Hears, Does, Starts, run}
 
 abbrev inc : ℕ → ℕ → Inc
 inc s n = record { server = s; start = n }
@@ -45,7 +45,7 @@ wires w = map (λ m. (m.from.server, m.to.server, kind m.wire)) w.wire
 
 -- the slots taken: by whom, the slot, the number of its value
 abbrev taken : World → List (ℕ × ℕ × ℕ)
-taken w = map (λ x. (x.by.server, x.entry.slot, x.entry.value.id.number)) w.took
+taken w = map (λ x. (x.by.server, x.taken.slot, x.taken.value.id.number)) w.took
 
 abbrev place_of : Option Node → ℕ
 place_of None = 0
@@ -54,6 +54,10 @@ place_of (Some n) = elim n.turns [ None ↦ 0 | Some w ↦ w.reading.place ]
 abbrev low_of : Option Node → ℕ
 low_of None = 0
 low_of (Some n) = n.acceptor.low
+
+abbrev promise_of : Option Node → ℕ
+promise_of None = 0
+promise_of (Some n) = n.acceptor.promise.round
 
 abbrev kept_slots : Option Node → List ℕ
 kept_slots None = []
@@ -135,3 +139,74 @@ removing_after = refl
 removing_unknown : config_at (removing.at (inc 1 1)) 16 ≡ None
 unfolding run node_step hear hear_prepare hear_accept hear_learn hear_promise hear_accepted propose_one own_value hear_offer campaign hear_alive tick take hear_welcome forget turn read
 removing_unknown = refl
+
+-- the rounds, slots and numbers of the values in the Accepts sent
+abbrev accept_in : Message → List (ℕ × ℕ × ℕ)
+accept_in m = elim m.wire [ Accept b t v ↦ (b.round, t, v.id.number) ∷ [] | _ ↦ [] ]
+
+abbrev accepts : World → List (ℕ × ℕ × ℕ)
+accepts w = flat_map accept_in w.wire
+
+-- A new leader finds a vote in slot 2 and none in slot 1: it fills slot 1 with a Noop, and proposes the value reported in slot 2.
+abbrev gap : World
+gap = run as_sent three (Does (inc 1 1) (Owns (value (inc 1 1) 1 (Body (1 ∷ []))) ∷ Owns (value (inc 1 1) 2 (Body (2 ∷ []))) ∷ []) ∷ Hears 3 [] ∷ Does (inc 3 1) (Campaigns ∷ []) ∷ Hears 6 [] ∷ Hears 7 [] ∷ [])
+
+gap_accepts : accepts gap ≡ (1, 1, 1) ∷ (1, 1, 1) ∷ (1, 2, 2) ∷ (1, 2, 2) ∷ (2, 1, 0) ∷ (2, 1, 0) ∷ (2, 2, 2) ∷ (2, 2, 2) ∷ []
+unfolding run node_step hear hear_prepare hear_accept hear_learn hear_promise hear_accepted propose_one own_value hear_offer campaign hear_alive tick take hear_welcome forget turn read
+gap_accepts = refl
+
+-- A Promise is lost, and asked for again at a tick.
+abbrev lost_promise : World
+lost_promise = run as_sent three (Does (inc 2 1) (Campaigns ∷ []) ∷ Hears 1 [] ∷ Does (inc 2 1) (Ticks ∷ []) ∷ Hears 6 [] ∷ Hears 7 [] ∷ Does (inc 2 1) (Owns (value (inc 2 1) 1 (Body (1 ∷ []))) ∷ []) ∷ Hears 9 [] ∷ Hears 10 (Takes None ∷ []) ∷ [])
+
+lost_promise_taken : taken lost_promise ≡ (2, 1, 1) ∷ []
+unfolding run node_step hear hear_prepare hear_accept hear_learn hear_promise hear_accepted propose_one own_value hear_offer campaign hear_alive tick take hear_welcome forget turn read
+lost_promise_taken = refl
+
+lost_promise_wires : wires lost_promise ≡ (2, 1, 1) ∷ (2, 3, 1) ∷ (3, 2, 2) ∷ (2, 1, 10) ∷ (2, 3, 10) ∷ (2, 1, 1) ∷ (2, 3, 1) ∷ (3, 2, 2) ∷ (2, 1, 3) ∷ (2, 3, 3) ∷ (3, 2, 4) ∷ (2, 1, 5) ∷ (2, 3, 5) ∷ []
+unfolding run node_step hear hear_prepare hear_accept hear_learn hear_promise hear_accepted propose_one own_value hear_offer campaign hear_alive tick take hear_welcome forget turn read
+lost_promise_wires = refl
+
+-- slot 1 is taken by all three, and each tells so
+abbrev all_took : List Event
+all_took = Does (inc 1 1) (Owns (value (inc 1 1) 1 (Body (1 ∷ []))) ∷ []) ∷ Hears 0 [] ∷ Hears 1 [] ∷ Hears 2 (Takes None ∷ []) ∷ Hears 3 [] ∷ Hears 4 (Takes None ∷ []) ∷ Hears 5 (Takes None ∷ []) ∷ Does (inc 1 1) (Ticks ∷ []) ∷ Does (inc 2 1) (Ticks ∷ []) ∷ Does (inc 3 1) (Ticks ∷ []) ∷ Hears 8 [] ∷ []
+
+-- Slots below the least told one are forgotten.
+abbrev told_by_one : World
+told_by_one = run as_sent three all_took
+
+abbrev told_by_all : World
+told_by_all = run as_sent three (all_took ++ Hears 10 [] ∷ [])
+
+kept_at_first : low_of ((run as_sent three []).at (inc 1 1)) ≡ 1
+unfolding run node_step hear hear_prepare hear_accept hear_learn hear_promise hear_accepted propose_one own_value hear_offer campaign hear_alive tick take hear_welcome forget turn read
+kept_at_first = refl
+
+kept_by_one : ◌≡◌ {A = ℕ × List ℕ} (low_of (told_by_one.at (inc 1 1)), kept_slots (told_by_one.at (inc 1 1))) (1, 1 ∷ [])
+unfolding run node_step hear hear_prepare hear_accept hear_learn hear_promise hear_accepted propose_one own_value hear_offer campaign hear_alive tick take hear_welcome forget turn read
+kept_by_one = refl
+
+kept_by_all : ◌≡◌ {A = ℕ × List ℕ} (low_of (told_by_all.at (inc 1 1)), kept_slots (told_by_all.at (inc 1 1))) (2, [])
+unfolding run node_step hear hear_prepare hear_accept hear_learn hear_promise hear_accepted propose_one own_value hear_offer campaign hear_alive tick take hear_welcome forget turn read
+kept_by_all = refl
+
+forgotten_config : config_at (told_by_all.at (inc 1 1)) 1 ≡ None
+unfolding run node_step hear hear_prepare hear_accept hear_learn hear_promise hear_accepted propose_one own_value hear_offer campaign hear_alive tick take hear_welcome forget turn read
+forgotten_config = refl
+
+-- A joiner keeps nothing below the slot after its Add.
+kept_by_joiner : low_of (joining.at (inc 3 1)) ≡ 2
+unfolding run node_step hear hear_prepare hear_accept hear_learn hear_promise hear_accepted propose_one own_value hear_offer campaign hear_alive tick take hear_welcome forget turn read
+kept_by_joiner = refl
+
+-- A removed member's Prepare from a forgotten slot is answered by Gone, and promises nothing.
+abbrev gone : World
+gone = run as_sent three (Does (inc 3 1) (Owns (value (inc 3 1) 1 (Remove (inc 3 1))) ∷ []) ∷ Hears 0 [] ∷ Hears 1 [] ∷ Hears 3 (Takes None ∷ []) ∷ Hears 4 (Takes None ∷ []) ∷ Does (inc 2 1) (Ticks ∷ []) ∷ Hears 6 [] ∷ Does (inc 3 1) (Campaigns ∷ []) ∷ Hears 7 [] ∷ [])
+
+gone_wires : wires gone ≡ (3, 1, 6) ∷ (1, 2, 3) ∷ (1, 3, 3) ∷ (2, 1, 4) ∷ (1, 2, 5) ∷ (1, 3, 5) ∷ (2, 1, 10) ∷ (3, 1, 1) ∷ (3, 2, 1) ∷ (1, 3, 11) ∷ []
+unfolding run node_step hear hear_prepare hear_accept hear_learn hear_promise hear_accepted propose_one own_value hear_offer campaign hear_alive tick take hear_welcome forget turn read
+gone_wires = refl
+
+gone_promise : promise_of (gone.at (inc 1 1)) ≡ 1
+unfolding run node_step hear hear_prepare hear_accept hear_learn hear_promise hear_accepted propose_one own_value hear_offer campaign hear_alive tick take hear_welcome forget turn read
+gone_promise = refl

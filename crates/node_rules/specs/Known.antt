@@ -1,7 +1,7 @@
 -- What a node knows by the slots that it has taken. A joiner knows nothing before its Welcome.
-use Rattle.std.specs.Prelude.{ℕ, Option, Some, None, List, [], ◌++◌, unwrap_or}
+use Rattle.std.specs.Prelude.{ℕ, Option, Some, None, List, [], unwrap_or}
 use Rattle.node_rules.specs.Names.{Inc}
-use Rattle.slot_values.specs.Log.{Turns, incs, last_in, config_of}
+use Rattle.slot_values.specs.Log.{Turns, incs, last_of, config_of}
 
 abbrev pub members_by : Option Turns → List Inc
 members_by None = []
@@ -22,4 +22,4 @@ config_here w t = unwrap_or (config_by w t) []
 -- the last kept number of a member, or of one whose Remove was taken here
 abbrev pub last_by : Option Turns → Inc → ℕ
 last_by None i = 0
-last_by (Some w) i = last_in (w.reading.members ++ w.reading.former) i
+last_by (Some w) i = last_of w.reading i

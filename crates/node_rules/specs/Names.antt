@@ -11,9 +11,16 @@ pub use Rattle.slot_values.specs.declared.value.What.{What}
 pub use Rattle.slot_values.specs.declared.value.What.TheVariants.{Noop, Add, Remove, Body}
 pub use Rattle.slot_values.specs.declared.value.Value.{Value}
 pub use Rattle.slot_values.specs.declared.value.Vote.{Vote}
+pub use Rattle.slot_values.specs.declared.kept.Kept.{Kept}
+pub use Rattle.slot_values.specs.declared.kept.Kept.TheVariants.{At, Skipped}
+pub use Rattle.slot_values.specs.declared.member.Member.{Member}
+pub use Rattle.slot_values.specs.declared.turns_at.TurnsAt.{TurnsAt}
 pub use Rattle.paxos_forms.specs.declared.message.Message.{Message}
 pub use Rattle.paxos_forms.specs.declared.message.Wire.{Wire}
 pub use Rattle.paxos_forms.specs.declared.message.Wire.TheVariants.{Prepare, Promise, Accept, Accepted, Learn, Offer, Ask, Give, Alive, Gone}
 pub use Rattle.paxos_forms.specs.declared.message.Wire.TheVariants.{Welcome as Greet}
 pub use Rattle.paxos_forms.specs.declared.welcome.Welcome.{Welcome}
 pub use Rattle.paxos_forms.specs.declared.welcome.WelcomeMember.{WelcomeMember}
+pub use Rattle.node_rules.specs.declared.event.PaxosEvent.{PaxosEvent}
+pub use Rattle.node_rules.specs.declared.event.PaxosEvent.TheVariants.{Heard, Own, Campaign, Tick, Propose}
+pub use Rattle.node_rules.specs.declared.taken.Taken.{Taken}

@@ -1,12 +1,11 @@
 -- One node of the ordering: acceptor, learner and perhaps leader, and what it knows of the log that it takes.
 -- (Multi-Paxos; Lamport, "Paxos Made Simple". Membership is changed by values of the log itself, behind a horizon:
 -- Lamport, Malkhi, Zhou, "Reconfiguring a State Machine".)
-use Rattle.std.specs.Prelude.{ℕ, Option, Some, None, List, [], ◌∷◌, ◌++◌, map, ◌==◌, if◌then◌else◌}
-use Rattle.node_rules.specs.Names.{Inc, Ballot, Value, Vote, Message, Wire}
+use Rattle.std.specs.Prelude.{ℕ, Bool, false, Option, Some, None, List, [], ◌∷◌, ◌++◌, map, ◌==◌, if◌then◌else◌}
+use Rattle.node_rules.specs.Names.{Inc, Ballot, Value, Vote, Kept, At, Skipped, Taken, Message, Wire}
 use Rattle.gr_ids.specs.Names.{inc_eq, no_ballot}
 use Rattle.slot_values.specs.Log.{Group, Turns, first_turns}
 use Rattle.node_rules.specs.Lists.{others}
-use Rattle.node_rules.specs.Slots.{Entry}
 use Rattle.node_rules.specs.Acceptor.{Acceptor}
 use Rattle.node_rules.specs.Learner.{Learner, new_learner}
 use Rattle.node_rules.specs.Known.{config_by}
@@ -57,13 +56,18 @@ founder g i = record {
 abbrev pub joiner : Group → Inc → Node
 joiner g i = record { me = i; horizon = g.horizon; acceptor = record { promise = no_ballot; votes = []; low = 0 }; learner = new_learner 0; turns = None; leader = None; told = []; own = [] }
 
--- ---- what an act does: the node after it, the messages sent, the votes cast, the slots taken
+-- ---- what an act does: the node after it, the messages sent, the votes cast, the slots handed out
+
+-- the value is kept, with effect
+abbrev pub takes_effect : Kept → Bool
+takes_effect (At p effect) = effect
+takes_effect Skipped = false
 
 pub record Effect : Type 0 where
   pub node : Node
   pub sent : List Message
   pub cast : List Vote
-  pub took : List Entry
+  pub took : List Taken
 
 abbrev pub sends : Node → List Message → Effect
 sends n ms = record { node = n; sent = ms; cast = []; took = [] }

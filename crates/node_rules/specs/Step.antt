@@ -1,7 +1,5 @@
 -- A whole step of a node: the row of its event, and then the forgetting.
-use Rattle.node_rules.specs.Names.{Inc, Wire, Prepare, Promise, Accept, Accepted, Learn, Offer, Greet, Ask, Give, Alive, Gone}
-use Rattle.node_rules.specs.declared.event.PaxosEvent.{PaxosEvent}
-use Rattle.node_rules.specs.declared.event.PaxosEvent.TheVariants.{Heard, Own, Campaign, Tick, Propose}
+use Rattle.node_rules.specs.Names.{Inc, Wire, Prepare, Promise, Accept, Accepted, Learn, Offer, Greet, Ask, Give, Alive, Gone, PaxosEvent, Heard, Own, Campaign, Tick, Propose}
 use Rattle.node_rules.specs.Node.{Node, Effect, quiet, also}
 use Rattle.node_rules.specs.Voting.{hear_prepare, hear_accept}
 use Rattle.node_rules.specs.Learning.{hear_learn, hear_accepted, hear_alive}

@@ -1,14 +1,14 @@
 -- Taking the next decided slot, and forgetting the slots that every member has.
 -- (Lamport, "Paxos Made Simple", section 3: commands are executed in the order of their slots. The forgetting is the project's own.)
-use Rattle.std.specs.Prelude.{ℕ, Bool, ◌+◌, ◌&&◌, not, Option, Some, None, List, [], ◌∷◌, ◌++◌, filter, fold, min, nat_lt, option_map, if◌then◌else◌}
-use Rattle.node_rules.specs.Names.{Inc, Value, What, Add, Remove}
+use Rattle.std.specs.Prelude.{ℕ, ◌+◌, not, Option, Some, None, List, [], ◌∷◌, ◌++◌, filter, fold, min, nat_lt, option_map, if◌then◌else◌}
+use Rattle.node_rules.specs.Names.{Inc, Value, What, Add, Remove, Kept}
 use Rattle.gr_ids.specs.Names.{inc_eq}
-use Rattle.slot_values.specs.Log.{Turns, Reading, last_in, turn, is_kept, has_effect, forget_configs}
+use Rattle.slot_values.specs.Log.{Turns, Reading, last_in, became, turn, forget_configs}
 use Rattle.node_rules.specs.Slots.{Entry}
 use Rattle.node_rules.specs.Acceptor.{forget_votes}
 use Rattle.node_rules.specs.Learner.{next_entry, pass, forget_decided}
 use Rattle.node_rules.specs.Leader.{forget_proposals}
-use Rattle.node_rules.specs.Node.{Node, Told, Effect, quiet, also}
+use Rattle.node_rules.specs.Node.{Node, Told, takes_effect, Effect, quiet, also}
 
 -- ---- told slots
 
@@ -41,22 +41,20 @@ forgets n = quiet (forget (least_told n) n)
 abbrev pub unkept : Inc → Reading → List Value → List Value
 unkept me r vs = filter (λ v. nat_lt (last_in r.members me) v.id.number) vs
 
-abbrev pub takes_effect : Reading → Value → Bool
-takes_effect r v = is_kept r v && has_effect r v.what
-
 abbrev pub take_entry : Node → Turns → Entry → Effect
 take_entry n w e =
     let u : Turns = turn w e.value in
+    let k : Kept = became w.reading e.value in
     record {
       node = record n {
         learner = pass n.learner;
         turns = Some u;
-        told = if takes_effect w.reading e.value then told_after n.told e.value.what e.slot else n.told;
+        told = if takes_effect k then told_after n.told e.value.what e.slot else n.told;
         own = unkept n.me u.reading n.own;
       };
       sent = [];
       cast = [];
-      took = e ∷ [];
+      took = record { slot = e.slot; value = e.value; kept = k } ∷ [];
     }
 
 abbrev pub take_next : Node → Option Turns → Option Entry → Effect

@@ -1,9 +1,9 @@
 -- The Welcome: what a member tells a joiner whose Add it has just taken, and how the joiner begins with it. (The project's own.)
-use Rattle.std.specs.Prelude.{ℕ, Bool, true, false, ◌+◌, ◌-◌, ◌&&◌, not, Option, Some, None, List, [], ◌∷◌, drop, length, map, nat_lt, nat_le, ◌==◌, if◌then◌else◌, is_some}
+use Rattle.std.specs.Prelude.{ℕ, Bool, true, false, ◌+◌, ◌&&◌, not, Option, Some, None, List, [], ◌∷◌, length, map, nat_lt, nat_le, ◌==◌, if◌then◌else◌, is_some}
 use Rattle.std.specs.List.{list_any, list_all}
-use Rattle.node_rules.specs.Names.{Inc, Ballot, MemberState, Online, Recovering, Mode, Single, Multi, Joiner, Welcome, WelcomeMember}
+use Rattle.node_rules.specs.Names.{Inc, Ballot, MemberState, Online, Recovering, Mode, Single, Multi, Joiner, Member, TurnsAt, Welcome, WelcomeMember}
 use Rattle.gr_ids.specs.Names.{inc_eq, ballot_lt, has_inc}
-use Rattle.slot_values.specs.Log.{Turns, Reading}
+use Rattle.slot_values.specs.Log.{Turns, turns_at, turns_from}
 use Rattle.node_rules.specs.Lists.{incs_eq, others}
 use Rattle.node_rules.specs.Learner.{begin_at}
 use Rattle.node_rules.specs.Node.{Node, Effect, quiet, told_from}
@@ -25,18 +25,20 @@ pub record Shown : Type 0 where
   pub seat : Inc → Seat
 
 abbrev pub welcome_of : Node → Turns → Shown → Welcome
-welcome_of n w v = record {
-  slot = w.slot;
-  place = w.reading.place;
-  number = v.number;
-  promise = n.acceptor.promise;
-  mode = v.mode;
-  primary = v.primary;
-  elected = v.elected;
-  members = map (λ m. record { joiner = record (v.seat m.inc).joiner { inc = m.inc }; state = (v.seat m.inc).state; last = m.last }) w.reading.members;
-  ever = w.reading.ever;
-  configs = drop (length w.configs - n.horizon) w.configs;
-}
+welcome_of n w v =
+    let x : TurnsAt = turns_at w in
+    record {
+      slot = x.slot;
+      place = x.place;
+      number = v.number;
+      promise = n.acceptor.promise;
+      mode = v.mode;
+      primary = v.primary;
+      elected = v.elected;
+      members = map {A = Member} (λ m. record { joiner = record (v.seat m.inc).joiner { inc = m.inc }; state = (v.seat m.inc).state; last = m.last }) x.last;
+      ever = x.ever;
+      configs = x.configs;
+    }
 
 -- ---- a Welcome in order
 
@@ -87,12 +89,9 @@ is_for x me h = (length x.configs == h) && list_any {X = WelcomeMember} (λ m. i
 
 -- ---- beginning with one
 
--- what the joiner knows of the log
-abbrev pub reading_in : Welcome → Reading
-reading_in x = record { place = x.place; members = map {A = WelcomeMember} (λ m. record { inc = m.joiner.inc; last = m.last }) x.members; ever = x.ever; former = [] }
-
-abbrev pub turns_in : Welcome → Turns
-turns_in x = record { slot = x.slot; reading = reading_in x; base = x.slot; configs = x.configs }
+-- what it tells of the log
+abbrev pub told_in : Welcome → TurnsAt
+told_in x = record { slot = x.slot; place = x.place; last = map {A = WelcomeMember} (λ m. record { inc = m.joiner.inc; last = m.last }) x.members; ever = x.ever; configs = x.configs }
 
 abbrev pub higher_ballot : Ballot → Ballot → Ballot
 higher_ballot a b = if ballot_lt a b then b else a
@@ -101,7 +100,7 @@ higher_ballot a b = if ballot_lt a b then b else a
 abbrev pub welcomed : Node → Welcome → Node
 welcomed n x = record (promises n (higher_ballot n.acceptor.promise x.promise)) {
   learner = begin_at n.learner (x.slot + 1);
-  turns = Some (turns_in x);
+  turns = Some (turns_from (told_in x));
   told = told_from (x.slot + 1) (others n.me (incs_in x));
 }
 

@@ -1,21 +1,19 @@
 -- A whole world of nodes: everything that was ever sent may come, any number of times and in any order, or never.
 use Rattle.std.specs.Prelude.{ℕ, Option, Some, None, List, [], ◌∷◌, ◌++◌, map, flat_map, slice_get, if◌then◌else◌, is_some}
-use Rattle.node_rules.specs.Names.{Inc, Value, Vote, Joiner, What, Add, Message, Offer, Greet}
+use Rattle.node_rules.specs.Names.{Inc, Value, Vote, Joiner, What, Add, Taken, Message, Offer, Greet, Heard, Own, Campaign, Tick, Propose}
 use Rattle.gr_ids.specs.Names.{inc_eq, has_inc}
 use Rattle.slot_values.specs.Log.{Group, Turns}
-use Rattle.node_rules.specs.declared.event.PaxosEvent.TheVariants.{Heard, Own, Campaign, Tick, Propose}
 use Rattle.node_rules.specs.Lists.{In}
-use Rattle.node_rules.specs.Slots.{Entry}
-use Rattle.node_rules.specs.Node.{Node, Effect, quiet, also, message, founder, joiner}
+use Rattle.node_rules.specs.Node.{Node, takes_effect, Effect, quiet, also, message, founder, joiner}
 use Rattle.node_rules.specs.Welcoming.{Shown, welcome_of}
-use Rattle.node_rules.specs.Taking.{take, takes_effect}
+use Rattle.node_rules.specs.Taking.{take}
 use Rattle.node_rules.specs.Step.{node_step}
 use Rattle.node_rules.specs.Chosen.{Cast}
 
--- a slot that an incarnation took
+-- a slot that was handed out, and to whom
 pub record Took : Type 0 where
   pub by : Inc
-  pub entry : Entry
+  pub taken : Taken
 
 -- Each incarnation ever started, with its node; every message ever sent, every vote ever cast, every slot ever taken, every value ever made; the incarnations that stopped.
 pub record World : Type 0 where
@@ -47,13 +45,13 @@ abbrev pub greet_by : Node → Option Turns → What → Shown → List Message
 greet_by n (Some w) (Add j) v = message n j.inc (Greet (welcome_of n w v)) ∷ []
 greet_by n w x v = []
 
--- the Welcome of the node n, which took this entry after it had read so much
-abbrev pub greets : Option Shown → Option Turns → Node → Entry → List Message
-greets (Some v) (Some w) n e = if takes_effect w.reading e.value then greet_by n n.turns e.value.what v else []
-greets s w n e = []
+-- the Welcome of the node n, which has just taken this slot
+abbrev pub greets : Option Shown → Node → Taken → List Message
+greets None n x = []
+greets (Some v) n x = if takes_effect x.kept then greet_by n n.turns x.value.what v else []
 
 abbrev pub takes : Option Shown → Node → Effect
-takes s n = let e : Effect = take n in record e { sent = e.sent ++ flat_map (greets s n.turns e.node) e.took }
+takes s n = let e : Effect = take n in record e { sent = e.sent ++ flat_map (greets s e.node) e.took }
 
 -- an incarnation makes values of its own alone
 abbrev pub does : Inc → Act → Node → Effect
@@ -86,8 +84,8 @@ put_node at i n j = if inc_eq i j then Some n else at j
 abbrev pub casts_by : Inc → List Vote → List Cast
 casts_by i xs = map (λ x. record { by = i; vote = x }) xs
 
-abbrev pub took_by : Inc → List Entry → List Took
-took_by i es = map (λ e. record { by = i; entry = e }) es
+abbrev pub took_by : Inc → List Taken → List Took
+took_by i xs = map (λ x. record { by = i; taken = x }) xs
 
 -- what the step of this incarnation makes of the world
 abbrev pub acted : (List Message → List Message) → World → Inc → Effect → World

@@ -3,5 +3,7 @@
 #![tactic(auto)]
 
 mod event;
+mod taken;
 
 pub use event::PaxosEvent;
+pub use taken::Taken;

@@ -87,7 +87,7 @@ safe_also g at ws cs ts i e f inv next =
     let k1 = subst a (put_twice at i e.node n) k in
     let k2 = subst b (append_assoc ws e.sent (f e.node).sent) k1 in
     let k3 = subst c (append_assoc cs (casts_by i e.cast) (casts_by i (f e.node).cast) ∙ ap (λ x. cs ++ x) (sym (map_append (λ x. voted i x) e.cast (f e.node).cast))) k2 in
-    subst d (append_assoc ts (took_by i e.took) (took_by i (f e.node).took) ∙ ap (λ x. ts ++ x) (sym (map_append (λ x. record { by = i; entry = x }) e.took (f e.node).took))) k3
+    subst d (append_assoc ts (took_by i e.took) (took_by i (f e.node).took) ∙ ap (λ x. ts ++ x) (sym (map_append (λ x. record { by = i; taken = x }) e.took (f e.node).took))) k3
 
 -- ---- the acceptor
 

@@ -164,13 +164,13 @@ module _ (g : Group) (first : Ballot) (cs : List Cast) (far : 0 < g.horizon) (so
   pub logs_agree : (xs ys : List Value) → IsChosenLog g cs xs → IsChosenLog g cs ys → (k : ℕ) (u v : Value) → slice_get xs k ≡ Some u → slice_get ys k ≡ Some v → u ≡ v
   logs_agree xs ys hx hy k u v p q = agree (k + 1) u v (chosen_decided xs hx (suc k) k u (omega arith) p) (chosen_decided ys hy (suc k) k v (omega arith) q)
 
+  -- what is decided in a slot is chosen there, by each log that gives its configuration
+  pub decided_chosen : (log : List Value) → LogDecided g cs log → (t : ℕ) (v : Value) → t ≤ length log + g.horizon → Decided g cs t v → IsChosen g cs log t v
+  unfolding AgreeAt
+  decided_chosen log dl t v within (decided l b d kn maj) =
+      let same : config g l t ≡ config g log t = same_config t (λ s h. agree s) l log d dl kn within in
+      (b, subst (λ x. majority x (λ a. has_cast cs (cast_of a t b v)) ≡ true) same maj)
+
   -- a log of decided values is a log of chosen ones
   pub log_chosen : (log : List Value) → LogDecided g cs log → IsChosenLog g cs log
-  unfolding AgreeAt
-  log_chosen log dl k v e = go (dl k v e)
-    where
-      go : Decided g cs (k + 1) v → IsChosen g cs log (k + 1) v
-      go (decided l b d kn maj) =
-          let len : k < length log = slice_get_within log k v e in
-          let same : config g l (k + 1) ≡ config g log (k + 1) = same_config (k + 1) (λ s h. agree s) l log d dl kn (omega arith) in
-          (b, subst (λ x. majority x (λ a. has_cast cs (cast_of a (k + 1) b v)) ≡ true) same maj)
+  log_chosen log dl k v e = let len : k < length log = slice_get_within log k v e in decided_chosen log dl (k + 1) v (omega arith) (dl k v e)

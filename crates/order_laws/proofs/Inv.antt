@@ -1,5 +1,5 @@
 -- What holds of every world: the invariant, and how it is kept by a step that casts no vote.
-use Rattle.std.proofs.Common.{◌≡◌, ℕ, ◌+◌, ◌<◌, ◌≤◌, Bool, true, false, ◌⊎◌, inl, inr, Option, Some, None, List, ◌++◌, length, refl, sym, ap, ◌∙◌, subst, arith}
+use Rattle.std.proofs.Common.{◌≡◌, ℕ, ◌+◌, ◌-◌, ◌<◌, ◌≤◌, Bool, true, false, ◌⊎◌, inl, inr, Option, Some, None, List, ◌++◌, length, refl, sym, ap, ◌∙◌, subst, arith}
 use Rattle.std.specs.Prelude.{slice_get}
 use mathlib.Core.Path.{fun_ext}
 use Rattle.gr_ids.specs.Names.{ballot_lt, has_inc, inc_eq}
@@ -9,10 +9,10 @@ use Rattle.node_rules.specs.Lists.{In}
 use Rattle.node_rules.specs.Node.{Node, first_ballot}
 use Rattle.node_rules.specs.Learner.{Learner}
 use Rattle.node_rules.specs.Slots.{Entry}
-use Rattle.node_rules.specs.Welcoming.{reading_in}
+use Rattle.node_rules.specs.Welcoming.{told_in}
 use Rattle.node_rules.specs.World.{Took, put_node}
-use Rattle.order_laws.specs.Names.{Inc, Ballot, Value, Joiner, Add, Vote, Welcome, Wire, Prepare, Promise, Accept, Accepted, Learn, Offer, Greet, Ask, Give, Alive, Gone, Message}
-use Rattle.slot_values.specs.Log.{Group, config, after, is_kept, has_effect, Turns, Reading, config_of}
+use Rattle.order_laws.specs.Names.{Taken, Inc, Ballot, Value, Joiner, Add, Vote, Welcome, Wire, Prepare, Promise, Accept, Accepted, Learn, Offer, Greet, Ask, Give, Alive, Gone, Message}
+use Rattle.slot_values.specs.Log.{Group, config, after, became, is_kept, has_effect, Turns, Reading, turns_from}
 use Rattle.order_laws.proofs.Order.{inc-eq, inc_same, lt_same, le_trans}
 use Rattle.order_laws.proofs.Lists.{in_append}
 use Rattle.order_laws.proofs.Agree.{Decided, LogDecided, Report, Supported, Sound}
@@ -55,13 +55,13 @@ pub record Stands (g : Group) (cs : List Cast) (w : Turns) : Type 0 where
   pub reading : ReadsAs w.reading (after g log)
   pub base : w.base ≤ w.slot
   pub room : w.base + length w.configs ≡ w.slot + g.horizon
-  pub configs : (t : ℕ) → w.base < t → t ≤ w.slot + g.horizon → config_of w t ≡ Some (config g log t)
+  pub configs : (t : ℕ) → w.base < t → t ≤ w.slot + g.horizon → slice_get w.configs (t - (w.base + 1)) ≡ Some (config g log t)
 
 pub record Greeted (g : Group) (cs : List Cast) (to : Inc) (x : Welcome) : Type 0 where
   pub log : List Value
   pub log_decided : LogDecided g cs log
   pub slot : x.slot ≡ length log
-  pub reading : ReadsAs (reading_in x) (after g log)
+  pub reading : ReadsAs (turns_from (told_in x)).reading (after g log)
   pub round : 1 ≤ x.promise.round
   pub configs : (k : ℕ) → k < g.horizon → slice_get x.configs k ≡ Some (config g log (x.slot + (k + 1)))
   pub begun : Begun g cs to x.slot
@@ -134,6 +134,14 @@ pub record Backed (g : Group) (at : Nodes) (cs : List Cast) (b : Ballot) (t : �
   pub support : Supported g cs b t v
   pub upto : (p : Promised) → In p support.promises → Upto at p.inc b
 
+-- a slot taken is decided, and its value became what it becomes after a log of decided values
+pub record TookWell (g : Group) (cs : List Cast) (x : Taken) : Type 0 where
+  pub decided : Decided g cs x.slot x.value
+  pub log : List Value
+  pub log_decided : LogDecided g cs log
+  pub slot : x.slot ≡ length log + 1
+  pub kept : x.kept ≡ became (after g log) x.value
+
 pub record Inv (g : Group) (at : Nodes) (ws : List Message) (cs : List Cast) (ts : List Took) : Type 0 where
   pub proposed : (a : Inc) (t : ℕ) (b : Ballot) (v : Value) → In (cast_of a t b v) cs → In (cast_of b.inc t b v) cs
   pub one : (t : ℕ) (b : Ballot) (u v : Value) → In (cast_of b.inc t b u) cs → In (cast_of b.inc t b v) cs → u ≡ v
@@ -142,7 +150,7 @@ pub record Inv (g : Group) (at : Nodes) (ws : List Message) (cs : List Cast) (ts
   pub voters : (a : Inc) (t : ℕ) (b : Ballot) (v : Value) → In (cast_of a t b v) cs → (n : Node) × (at a ≡ Some n)
   pub nodes : (i : Inc) (n : Node) → at i ≡ Some n → NodeOk g at cs i n
   pub wire : (m : Message) → In m ws → MsgOk g at cs m
-  pub took : (x : Took) → In x ts → Decided g cs x.entry.slot x.entry.value
+  pub took : (x : Took) → In x ts → TookWell g cs x.taken
 
 pub sound_of : (g : Group) (at : Nodes) (wire : List Message) (cs : List Cast) (took : List Took) → Inv g at wire cs took → Sound g (first_ballot g) cs
 sound_of g at wire cs took inv = record {

@@ -1,14 +1,14 @@
 -- What a node knows of the log: one slot more, some configurations fewer, or what a Welcome tells.
-use Rattle.std.proofs.Common.{◌≡◌, ℕ, zero, suc, ◌+◌, ◌-◌, ◌<◌, ◌≤◌, Bool, true, false, ◌⊎◌, inl, inr, Some, List, [], ◌∷◌, ◌++◌, length, take, drop, refl, sym, ap, ◌∙◌, subst, arith}
+use Rattle.std.proofs.Common.{◌≡◌, ℕ, zero, suc, ◌+◌, ◌-◌, ◌<◌, ◌≤◌, Bool, true, false, ◌⊎◌, inl, inr, Some, List, [], ◌∷◌, ◌++◌, length, take, drop, max, min, refl, sym, ap, ◌∙◌, subst, arith}
 use Rattle.std.specs.Prelude.{slice_get, map}
-use Rattle.std.proofs.lemmas.Bool.{cases_lt, lt-ltb}
+use Rattle.std.proofs.lemmas.Bool.{cases_lt}
 use Rattle.std.proofs.lemmas.List.{length-drop}
 use Rattle.std.proofs.lemmas.List.Sums.{fold_push}
 use Rattle.node_rules.specs.Chosen.{Cast}
 use Rattle.node_rules.specs.Node.{Node}
 use Rattle.node_rules.specs.Welcoming.{Shown, welcome_of}
-use Rattle.order_laws.specs.Names.{Inc, Value, What, Noop, Add, Remove, Body, WelcomeMember}
-use Rattle.slot_values.specs.Log.{Group, Member, Reading, read, kept, changed, config, after, incs, founded, has_effect, is_kept, Turns, config_of, turn, forget_configs}
+use Rattle.order_laws.specs.Names.{Member, Inc, Value, What, Noop, Add, Remove, Body, WelcomeMember}
+use Rattle.slot_values.specs.Log.{Group, Reading, read, kept, changed, config, after, became, incs, founded, has_effect, is_kept, Turns, turn, forget_configs}
 use Rattle.order_laws.proofs.Agree.{Decided, LogDecided}
 use Rattle.order_laws.proofs.Inv.{Begun, ReadsAs, Stands, Greeted}
 
@@ -72,6 +72,9 @@ as_former r s h = λ k. record { place = h.place k; members = h.members k; ever 
 pub reads_on : (r s : Reading) (v : Value) → ReadsAs r s → ReadsAs (read r v) (read s v)
 reads_on r s v h = subst (λ z. ReadsAs (read z v) (read s v)) (sym (as_former r s h)) (read_as s r.former v)
 
+pub became_alike : (r s : Reading) (v : Value) → ReadsAs r s → became r v ≡ became s v
+became_alike r s v h = ap (λ z. became z v) (as_former r s h)
+
 pub kept_alike : (r s : Reading) (v : Value) → ReadsAs r s → is_kept r v ≡ is_kept s v
 kept_alike r s v h = ap (λ z. is_kept z v) (as_former r s h)
 
@@ -107,15 +110,12 @@ stands_turn g cs w v s d = record {
     reads : ReadsAs (read w.reading v) (after g (s.log ++ v ∷ []))
     reads = subst (λ z. ReadsAs (read w.reading v) z) (sym (fold_push read (founded g) s.log v)) (reads_on w.reading (after g s.log) v s.reading)
 
-    at_t : (t : ℕ) → w.base < t → t ≤ w.slot + 1 + g.horizon → config_of (turn w v) t ≡ Some (config g (s.log ++ v ∷ []) t)
+    at_t : (t : ℕ) → w.base < t → t ≤ w.slot + 1 + g.horizon → slice_get (w.configs ++ incs (read w.reading v).members ∷ []) (t - (w.base + 1)) ≡ Some (config g (s.log ++ v ∷ []) t)
     at_t t b h = elim (cases_lt t (w.slot + 1 + g.horizon)) [
-      | inl k ↦
-          let z = s.configs t b (omega arith) in
-          let e : config_of w t ≡ slice_get w.configs (t - (w.base + 1)) = rw (lt-ltb w.base t b) refl in
-          rw (lt-ltb w.base t b) (get_left w.configs (incs (read w.reading v).members ∷ []) (t - (w.base + 1)) (omega (arith, s.room)) ∙ sym e ∙ z ∙ ap Some (sym (config_left g s.log v t (omega (arith, s.slot)))))
+      | inl k ↦ get_left w.configs (incs (read w.reading v).members ∷ []) (t - (w.base + 1)) (omega (arith, s.room)) ∙ s.configs t b (omega arith) ∙ ap Some (sym (config_left g s.log v t (omega (arith, s.slot))))
       | inr k ↦
           let at_i : t - (w.base + 1) ≡ length w.configs = omega (arith, s.room, s.base) in
-          rw (lt-ltb w.base t b) (ap (λ z. slice_get (w.configs ++ incs (read w.reading v).members ∷ []) z) at_i ∙ get_last w.configs (incs (read w.reading v).members) ∙ ap Some (ap incs reads.members ∙ sym (config_last g s.log v t (omega (arith, s.slot)))))
+          ap (λ z. slice_get (w.configs ++ incs (read w.reading v).members ∷ []) z) at_i ∙ get_last w.configs (incs (read w.reading v).members) ∙ ap Some (ap incs reads.members ∙ sym (config_last g s.log v t (omega (arith, s.slot))))
     ]
 
 pub turn-slot : (w : Turns) (v : Value) → (turn w v).slot ≡ w.slot + 1
@@ -124,21 +124,21 @@ turn-slot w v = refl
 
 -- ---- configurations forgotten
 
-pub stands_forget : (g : Group) (cs : List Cast) (k : ℕ) (w : Turns) → k ≤ w.slot + 1 → Stands g cs w → Stands g cs (forget_configs k w)
-stands_forget g cs k w h s = record {
-  log = s.log;
-  log_decided = s.log_decided;
-  slot = s.slot;
-  reading = s.reading;
-  base = omega (arith, s.base);
-  room = let e : length (drop (k - (w.base + 1)) w.configs) ≡ length w.configs - (k - (w.base + 1)) = length-drop (k - (w.base + 1)) w.configs in omega (arith, s.base, s.room);
-  configs = λ t b l.
-      let d : ℕ = k - (w.base + 1) in
-      let z : config_of w t ≡ Some (config g s.log t) = s.configs t (omega arith) l in
-      let e : config_of w t ≡ slice_get w.configs (t - (w.base + 1)) = rw (lt-ltb w.base t (omega arith)) refl in
-      let i : (k - (w.base + 1)) + (t - (w.base + (k - (w.base + 1)) + 1)) ≡ t - (w.base + 1) = omega arith in
-      rw (lt-ltb (w.base + (k - (w.base + 1))) t b) (get_drop w.configs (k - (w.base + 1)) (t - (w.base + (k - (w.base + 1)) + 1)) ∙ ap (λ y. slice_get w.configs y) i ∙ sym e ∙ z);
-}
+pub stands_forget : (g : Group) (cs : List Cast) (k : ℕ) (w : Turns) → Stands g cs w → Stands g cs (forget_configs k w)
+stands_forget g cs k w s = dropped (min (k - (w.base + 1)) (w.slot - w.base)) (omega arith)
+  where
+    dropped : (d : ℕ) → d ≤ w.slot - w.base → Stands g cs (record w { base = w.base + d; low = max k w.low; configs = drop d w.configs })
+    dropped d h = record {
+      log = s.log;
+      log_decided = s.log_decided;
+      slot = s.slot;
+      reading = s.reading;
+      base = omega (arith, s.base);
+      room = let e : length (drop d w.configs) ≡ length w.configs - d = length-drop d w.configs in omega (arith, s.base, s.room);
+      configs = λ t b l.
+          let i : d + (t - (w.base + d + 1)) ≡ t - (w.base + 1) = omega arith in
+          get_drop w.configs d (t - (w.base + d + 1)) ∙ ap (λ y. slice_get w.configs y) i ∙ s.configs t (omega arith) l;
+    }
 
 -- ---- a Welcome made
 
@@ -147,8 +147,8 @@ told_members : (v : Shown) (ms : List Member)
 told_members v [] = refl
 told_members v (m ∷ ms) = ap (λ z. m ∷ z) (told_members v ms)
 
-pub greeted : (g : Group) (cs : List Cast) (to : Inc) (n : Node) (w : Turns) (v : Shown) → n.horizon ≡ g.horizon → 1 ≤ n.acceptor.promise.round → Stands g cs w → Begun g cs to w.slot → Greeted g cs to (welcome_of n w v)
-greeted g cs to n w v hz rd s bg = record {
+pub greeted : (g : Group) (cs : List Cast) (to : Inc) (n : Node) (w : Turns) (v : Shown) → 1 ≤ n.acceptor.promise.round → Stands g cs w → Begun g cs to w.slot → Greeted g cs to (welcome_of n w v)
+greeted g cs to n w v rd s bg = record {
   begun = bg;
   log = s.log;
   log_decided = s.log_decided;
@@ -156,10 +156,6 @@ greeted g cs to n w v hz rd s bg = record {
   reading = record { place = (s.reading).place; members = told_members v w.reading.members ∙ (s.reading).members; ever = (s.reading).ever };
   round = rd;
   configs = λ k h.
-      let t : ℕ = w.slot + (k + 1) in
-      let b : w.base < w.slot + (k + 1) = omega (arith, s.base) in
-      let z : config_of w (w.slot + (k + 1)) ≡ Some (config g s.log (w.slot + (k + 1))) = s.configs (w.slot + (k + 1)) b (omega arith) in
-      let e : config_of w (w.slot + (k + 1)) ≡ slice_get w.configs (w.slot + (k + 1) - (w.base + 1)) = rw (lt-ltb w.base (w.slot + (k + 1)) b) refl in
-      let j : (length w.configs - n.horizon) + k ≡ w.slot + (k + 1) - (w.base + 1) = omega (arith, s.room, s.base, hz) in
-      get_drop w.configs (length w.configs - n.horizon) k ∙ ap (λ y. slice_get w.configs y) j ∙ sym e ∙ z;
+      let j : (w.slot - w.base) + k ≡ w.slot + (k + 1) - (w.base + 1) = omega (arith, s.base) in
+      get_drop w.configs (w.slot - w.base) k ∙ ap (λ y. slice_get w.configs y) j ∙ s.configs (w.slot + (k + 1)) (omega (arith, s.base)) (omega arith);
 }

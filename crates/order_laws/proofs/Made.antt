@@ -9,7 +9,7 @@ use Rattle.node_rules.specs.Leader.{Promised, has_promise, best, Leader, Proposa
 use Rattle.node_rules.specs.Learner.{Learner, is_decided, advanced, learn, next_entry, forget_decided}
 use Rattle.node_rules.specs.Learning.{learns, hear_learn, settles, counts, lead_accepted, hear_accepted, tells, learns_from, hear_alive}
 use Rattle.node_rules.specs.Lists.{In, union, others}
-use Rattle.node_rules.specs.Node.{Node, Effect, quiet, sends, also, message, to_others, leads, first_inc, first_ballot, founder, joiner}
+use Rattle.node_rules.specs.Node.{takes_effect, Node, Effect, quiet, sends, also, message, to_others, leads, first_inc, first_ballot, founder, joiner}
 use Rattle.node_rules.specs.Proposing.{decided_above, proposes, propose_choice, lead_propose, propose_one, propose_times, propose_all, lead_promise, hear_promise, offers_out, offers, own_value, lead_offer, hear_offer, audience, next_ballot, campaign}
 use Rattle.node_rules.specs.Slots.{Entry, put_slot}
 use Rattle.node_rules.specs.Step.{hear, row, node_step}
@@ -18,11 +18,9 @@ use Rattle.node_rules.specs.Ticks.{prepares_again, accepts_again, lead_tick, tic
 use Rattle.node_rules.specs.Voting.{promises, votes, gone_to, hear_prepare, hear_accept}
 use Rattle.node_rules.specs.Welcoming.{Shown, welcome_of, is_in_order, is_for, higher_ballot, welcomed, hear_welcome}
 use Rattle.node_rules.specs.World.{World, Took, Act, Owns, Campaigns, Ticks, Proposes, Takes, Event, Hears, Does, Starts, Ends, greet_by, greets, takes, does, does_all, made_by, all_made_by, Arranges, put_node, took_by, acted, makes, act_on, acts, hears, add_of, start_sent, starts, happens, start, run_from, run}
-use Rattle.node_rules.specs.declared.event.PaxosEvent.{PaxosEvent}
-use Rattle.node_rules.specs.declared.event.PaxosEvent.TheVariants.{Heard, Own, Campaign, Tick, Propose}
 use Rattle.order_laws.specs.Laws.{InEveryRun, MadeBefore}
-use Rattle.order_laws.specs.Names.{Inc, Ballot, Value, What, Noop, Add, Remove, Body, Joiner, Vote, Message, Wire, Prepare, Promise, Accept, Accepted, Learn, Offer, Greet, Ask, Give, Alive, Gone, Welcome}
-use Rattle.slot_values.specs.Log.{Group, Turns, turn, is_kept, has_effect, last_in, forget_configs}
+use Rattle.order_laws.specs.Names.{Taken, PaxosEvent, Heard, Own, Campaign, Tick, Propose, Inc, Ballot, Value, What, Noop, Add, Remove, Body, Joiner, Vote, Message, Wire, Prepare, Promise, Accept, Accepted, Learn, Offer, Greet, Ask, Give, Alive, Gone, Welcome}
+use Rattle.slot_values.specs.Log.{Group, Turns, turn, last_in, forget_configs}
 use Rattle.order_laws.proofs.Lists.{in_right, in_left, in_append, in_push, in_last, in_put, in_from, in_map, in_filter, in_flat, at_slot-in, best_real}
 use Rattle.order_laws.proofs.Inv.{Nodes, put_cases}
 use Rattle.order_laws.proofs.Acts.{append_nil, still_led}
@@ -60,7 +58,7 @@ module _ (P : Value → Type 0) (noops : (v : Value) → v.what ≡ Noop → P v
   record Vals (e : Effect) : Type 0 where
     node : NodeVals e.node
     sent : (m : Message) → In m e.sent → WireVals m.wire
-    took : (x : Entry) → In x e.took → P x.value
+    took : (x : Taken) → In x e.took → P x.value
 
   vals_quiet : (n : Node) → NodeVals n → Vals (quiet n)
   vals_quiet n k = record { node = k; sent = λ m h. absurd h; took = λ x h. absurd h }
@@ -351,19 +349,18 @@ module _ (P : Value → Type 0) (noops : (v : Value) → v.what ≡ Noop → P v
   greet_vals n (Some t) (Body b) v m h = absurd h
   greet_vals n (Some t) (Add j) v m h = one_message (message n j.inc (Greet (welcome_of n t v))) tt m h
 
-  greets_vals : (s : Option Shown) (o : Option Turns) (n : Node) (e : Entry) (m : Message) → In m (greets s o n e) → WireVals m.wire
-  greets_vals None o n e m h = absurd h
-  greets_vals (Some v) None n e m h = absurd h
-  greets_vals (Some v) (Some w) n e m h = cond_both (is_kept w.reading e.value && has_effect w.reading e.value.what) (greet_by n n.turns e.value.what v) [] (λ ms. In m ms → WireVals m.wire) (λ q z. greet_vals n n.turns e.value.what v m z) (λ q z. absurd z) h
+  greets_vals : (s : Option Shown) (n : Node) (e : Taken) (m : Message) → In m (greets s n e) → WireVals m.wire
+  greets_vals None n e m h = absurd h
+  greets_vals (Some v) n e m h = cond_both (takes_effect e.kept) (greet_by n n.turns e.value.what v) [] (λ ms. In m ms → WireVals m.wire) (λ q z. greet_vals n n.turns e.value.what v m z) (λ q z. absurd z) h
 
   vals_takes : (s : Option Shown) (n : Node) → NodeVals n → Vals (takes s n)
   vals_takes s n k =
       let v = vals_take n k in
       record {
         node = v.node;
-        sent = λ m h. elim (in_append m (take n).sent (flat_map (greets s n.turns (take n).node) (take n).took) h) [
+        sent = λ m h. elim (in_append m (take n).sent (flat_map (greets s (take n).node) (take n).took) h) [
           | inl q ↦ v.sent m q
-          | inr q ↦ let r = in_flat (greets s n.turns (take n).node) (take n).took m q in greets_vals s n.turns (take n).node r.0 m r.2
+          | inr q ↦ let r = in_flat (greets s (take n).node) (take n).took m q in greets_vals s (take n).node r.0 m r.2
         ];
         took = v.took;
       }
@@ -410,11 +407,11 @@ module _ (P : Value → Type 0) (noops : (v : Value) → v.what ≡ Noop → P v
   record WorldVals (at : Nodes) (ws : List Message) (ts : List Took) : Type 0 where
     nodes : (i : Inc) (n : Node) → at i ≡ Some n → NodeVals n
     wire : (m : Message) → In m ws → WireVals m.wire
-    took : (x : Took) → In x ts → P x.entry.value
+    took : (x : Took) → In x ts → P x.taken.value
 
-  in_took : (i : Inc) (es : List Entry) → ((e : Entry) → In e es → P e.value) → (x : Took) → In x (took_by i es) → P x.entry.value
+  in_took : (i : Inc) (es : List Taken) → ((e : Taken) → In e es → P e.value) → (x : Took) → In x (took_by i es) → P x.taken.value
   in_took i [] k x h = absurd h
-  in_took i (e ∷ es) k x h = elim h [ inl q ↦ subst (λ z. P z.entry.value) q (k e (inl refl)) | inr q ↦ in_took i es (λ d j. k d (inr j)) x q ]
+  in_took i (e ∷ es) k x h = elim h [ inl q ↦ subst (λ z. P z.taken.value) q (k e (inl refl)) | inr q ↦ in_took i es (λ d j. k d (inr j)) x q ]
 
   world_acted : (at : Nodes) (ws ms : List Message) (ts : List Took) (i : Inc) (e : Effect) → WorldVals at ws ts → Vals e → ((m : Message) → In m ms → In m e.sent) → WorldVals (put_node at i e.node) (ws ++ ms) (ts ++ took_by i e.took)
   world_acted at ws ms ts i e v k f = record {
@@ -460,7 +457,7 @@ module _ (P Q : Value → Type 0) (np : (v : Value) → v.what ≡ Noop → P v)
   wire_more Gone k = tt
 
   world_more : (at : Nodes) (ws : List Message) (ts : List Took) → WorldVals P np at ws ts → WorldVals Q nq at ws ts
-  world_more at ws ts k = record { nodes = λ i n h. node_more n (k.nodes i n h); wire = λ m h. wire_more m.wire (k.wire m h); took = λ x h. more x.entry.value (k.took x h) }
+  world_more at ws ts k = record { nodes = λ i n h. node_more n (k.nodes i n h); wire = λ m h. wire_more m.wire (k.wire m h); took = λ x h. more x.taken.value (k.took x h) }
 
 abbrev Made : List Value → Value → Type 0
 Made made v = (v.what ≡ Noop) ⊎ In v made

@@ -1,7 +1,7 @@
 -- Every event keeps the invariant, so it holds of every run; and the laws on chosen values follow.
 use Rattle.std.proofs.Common.{◌≡◌, ℕ, zero, suc, ◌+◌, ◌-◌, ◌<◌, ◌≤◌, Bool, true, false, cond, inl, inr, Option, Some, None, List, [], ◌∷◌, ◌++◌, length, take, replicate, refl, sym, ap, ◌∙◌, subst, arith}
 use Rattle.std.specs.Prelude.{slice_get, map}
-use Rattle.std.proofs.lemmas.Bool.{cases_Bool, lt-ltb, cond_both}
+use Rattle.std.proofs.lemmas.Bool.{cases_Bool, lt-ltb, le-leb, cond_both}
 use Rattle.gr_ids.specs.Names.{has_inc, inc_eq}
 use Rattle.node_rules.specs.Chosen.{Cast, cast_of}
 use Rattle.node_rules.specs.Leader.{Leader, new_leader}
@@ -9,13 +9,12 @@ use Rattle.node_rules.specs.Lists.{In}
 use Rattle.node_rules.specs.Node.{Node, Effect, first_inc, first_ballot, founder, joiner, quiet, also}
 use Rattle.node_rules.specs.Step.{node_step}
 use Rattle.node_rules.specs.World.{World, Took, Act, Event, Hears, Does, Starts, Ends, does_all, all_made_by, Arranges, put_node, casts_by, took_by, acted, makes, act_on, acts, hears, start_sent, starts, happens, founders_at, start, run_from, run}
-use Rattle.node_rules.specs.declared.event.PaxosEvent.TheVariants.{Heard}
-use Rattle.order_laws.specs.Names.{Inc, Ballot, Value, Joiner, Message}
-use Rattle.order_laws.specs.Laws.{InEveryRun, AtMostOneChosen, OneLog, TakenAlike, Follows}
+use Rattle.order_laws.specs.Names.{Heard, Inc, Ballot, Value, Joiner, Message}
+use Rattle.order_laws.specs.Laws.{InEveryRun, AtMostOneChosen, OneLog, TakenAlike, KeptAsInLog, Follows}
 use Rattle.slot_values.specs.Log.{Group, config, after, incs, first_turns}
 use Rattle.order_laws.proofs.Order.{inc-eq, lt_same}
 use Rattle.order_laws.proofs.Lists.{in_left, in_right, in_append, in_push}
-use Rattle.order_laws.proofs.Agree.{Decided, agree, chosen_once, logs_agree, log_chosen}
+use Rattle.order_laws.proofs.Agree.{Decided, agree, chosen_once, logs_agree, log_chosen, decided_chosen}
 use Rattle.order_laws.proofs.Inv.{Nodes, Stands, LeaderOk, NodeOk, MsgOk, Inv, sound_of, put_cases, Rises, node_rises, wire_rises, backed_rises, wire_fewer}
 use Rattle.order_laws.proofs.Acts.{InvAfter, safe_quiet, safe_also}
 use Rattle.order_laws.proofs.Steps.{safe_step, safe_all}
@@ -144,7 +143,7 @@ founder_ok g at i = record {
       reading = record { place = refl; members = refl; ever = refl };
       base = omega arith;
       room = omega (arith, length_replicate g.founders g.horizon);
-      configs = λ t b h. rw (lt-ltb 0 t b) (get_replicate g.founders g.horizon (t - (0 + 1)) (omega arith) ∙ ap Some (sym (config_founders g t)));
+      configs = λ t b h. get_replicate g.founders g.horizon (t - (0 + 1)) (omega arith) ∙ ap Some (sym (config_founders g t));
     }
 
     lead : (u : Bool) → inc_eq i (first_inc g.founders) ≡ u → (l : Leader) → cond u (Some (new_leader (first_ballot g) [])) None ≡ Some l → LeaderOk g at [] i (first_ballot g) 1 1 l
@@ -196,11 +195,19 @@ pub taken_alike : InEveryRun TakenAlike
 taken_alike arrange ok g es far x y hx hy same =
     let w = run arrange g es in
     let inv = good arrange ok g es in
-    agree g (first_ballot g) w.cast far (sound_of g w.at w.wire w.cast w.took inv) y.entry.slot x.entry.value y.entry.value (subst (λ z. Decided g w.cast z x.entry.value) same (inv.took x hx)) (inv.took y hy)
+    agree g (first_ballot g) w.cast far (sound_of g w.at w.wire w.cast w.took inv) y.taken.slot x.taken.value y.taken.value (subst (λ z. Decided g w.cast z x.taken.value) same (inv.took x hx).decided) (inv.took y hy).decided
+
+pub kept_as_in_log : InEveryRun KeptAsInLog
+kept_as_in_log arrange ok g es far x h =
+    let w = run arrange g es in
+    let inv = good arrange ok g es in
+    let sound = sound_of g w.at w.wire w.cast w.took inv in
+    let k = inv.took x h in
+    (k.log, log_chosen g (first_ballot g) w.cast far sound k.log k.log_decided, k.slot, decided_chosen g (first_ballot g) w.cast far sound k.log k.log_decided x.taken.slot x.taken.value (omega (arith, k.slot, far)) k.decided, k.kept)
 
 pub follows : InEveryRun Follows
 follows arrange ok g es far i n t here turns =
     let w = run arrange g es in
     let inv = good arrange ok g es in
     let s = (((inv.nodes i n here).learner).turns t turns).0 in
-    (s.log, log_chosen g (first_ballot g) w.cast far (sound_of g w.at w.wire w.cast w.took inv) s.log s.log_decided, s.slot, (s.reading).place, (s.reading).members, (s.reading).ever, s.configs)
+    (s.log, log_chosen g (first_ballot g) w.cast far (sound_of g w.at w.wire w.cast w.took inv) s.log s.log_decided, s.slot, (s.reading).place, (s.reading).members, (s.reading).ever, λ k b lo h. rw (lt-ltb t.base k b, le-leb t.low k lo) (s.configs k b h))

@@ -17,9 +17,7 @@ use Rattle.node_rules.specs.Taking.{forgets}
 use Rattle.node_rules.specs.Ticks.{prepares_again, accepts_again, lead_tick, tick}
 use Rattle.node_rules.specs.Voting.{gone_to}
 use Rattle.node_rules.specs.World.{Took, put_node, Act, Owns, Campaigns, Ticks, Proposes, Takes, does, does_all}
-use Rattle.node_rules.specs.declared.event.PaxosEvent.{PaxosEvent}
-use Rattle.node_rules.specs.declared.event.PaxosEvent.TheVariants.{Heard, Own, Campaign, Tick, Propose}
-use Rattle.order_laws.specs.Names.{Inc, Wire, Prepare, Promise, Accept, Accepted, Learn, Offer, Greet, Ask, Give, Alive, Gone, Message}
+use Rattle.order_laws.specs.Names.{PaxosEvent, Heard, Own, Campaign, Tick, Propose, Inc, Wire, Prepare, Promise, Accept, Accepted, Learn, Offer, Greet, Ask, Give, Alive, Gone, Message}
 use Rattle.slot_values.specs.Log.{Group}
 use Rattle.order_laws.proofs.Order.{lt_same}
 use Rattle.order_laws.proofs.Lists.{in_append, in_map, in_filter, in_flat}

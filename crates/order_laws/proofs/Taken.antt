@@ -16,11 +16,9 @@ use Rattle.node_rules.specs.Ticks.{tick}
 use Rattle.node_rules.specs.Voting.{hear_prepare, hear_accept}
 use Rattle.node_rules.specs.Welcoming.{is_in_order, is_for, welcomed, hear_welcome}
 use Rattle.node_rules.specs.World.{World, Took, Act, Owns, Campaigns, Ticks, Proposes, Takes, Event, Hears, Does, Starts, Ends, does, does_all, all_made_by, put_node, took_by, casts_by, acted, makes, act_on, acts, hears, starts, happens, start, run_from, run, Arranges}
-use Rattle.node_rules.specs.declared.event.PaxosEvent.{PaxosEvent}
-use Rattle.node_rules.specs.declared.event.PaxosEvent.TheVariants.{Heard, Own, Campaign, Tick, Propose}
 use Rattle.order_laws.specs.Laws.{InEveryRun, slots_by, count_up, AddedIn, Consecutive}
-use Rattle.order_laws.specs.Names.{Inc, Joiner, Welcome, Wire, Prepare, Promise, Accept, Accepted, Learn, Offer, Greet, Ask, Give, Alive, Gone, Message}
-use Rattle.slot_values.specs.Log.{Group, Turns}
+use Rattle.order_laws.specs.Names.{Taken, PaxosEvent, Heard, Own, Campaign, Tick, Propose, Inc, Joiner, Welcome, Wire, Prepare, Promise, Accept, Accepted, Learn, Offer, Greet, Ask, Give, Alive, Gone, Message}
+use Rattle.slot_values.specs.Log.{Group, Turns, became}
 use Rattle.order_laws.proofs.Order.{inc_same}
 use Rattle.order_laws.proofs.Lists.{in_left, at_slot-slot}
 use Rattle.order_laws.proofs.Agree.{Decided, log_chosen}
@@ -51,15 +49,15 @@ slots_append i [] ys = refl
 slots_append i (x ∷ xs) ys = go (inc_eq x.by i) refl (slots_append i xs ys)
   where
     go : (u : Bool) → inc_eq x.by i ≡ u → slots_by i (xs ++ ys) ≡ slots_by i xs ++ slots_by i ys → slots_by i (x ∷ xs ++ ys) ≡ slots_by i (x ∷ xs) ++ slots_by i ys
-    go true e r = rw e (ap (λ l. x.entry.slot ∷ l) r)
+    go true e r = rw e (ap (λ l. x.taken.slot ∷ l) r)
     go false e r = rw e r
 
 -- what another took isn't this one's
-slots_other : (i j : Inc) (es : List Entry) → inc_eq i j ≡ false → slots_by j (took_by i es) ≡ []
+slots_other : (i j : Inc) (es : List Taken) → inc_eq i j ≡ false → slots_by j (took_by i es) ≡ []
 slots_other i j [] e = refl
 slots_other i j (x ∷ es) e = rw e (slots_other i j es e)
 
-slots_own : (i : Inc) (e : Entry) → slots_by i (took_by i (e ∷ [])) ≡ e.slot ∷ []
+slots_own : (i : Inc) (e : Taken) → slots_by i (took_by i (e ∷ [])) ≡ e.slot ∷ []
 slots_own i e = rw (inc_same i)
 
 count_push : (s k : ℕ) → count_up s k ++ (s + k) ∷ [] ≡ count_up s (suc k)
@@ -115,13 +113,16 @@ module _ (B : Inc → ℕ → Type 0) (g : Group) where
       s1 : ℕ
       s1 = o.0 + 1
 
-      seen : slots_by i (ts ++ took_by i (e ∷ [])) ≡ count_up (o.0 + 1) (n.learner.slot + 1 - (o.0 + 1))
+      x : Taken
+      x = record { slot = e.slot; value = e.value; kept = became w.reading e.value }
+
+      seen : slots_by i (ts ++ took_by i (x ∷ [])) ≡ count_up (o.0 + 1) (n.learner.slot + 1 - (o.0 + 1))
       seen =
           let c : ℕ = n.learner.slot - (o.0 + 1) in
           let at_end : n.learner.slot ≡ (o.0 + 1) + (n.learner.slot - (o.0 + 1)) = omega (arith, o.1) in
           let len : suc (n.learner.slot - (o.0 + 1)) ≡ n.learner.slot + 1 - (o.0 + 1) = omega (arith, o.1) in
-          slots_append i ts (took_by i (e ∷ [])) ∙ ap (λ z. z ++ slots_by i (took_by i (e ∷ []))) o.2
-          ∙ ap (λ z. count_up (o.0 + 1) (n.learner.slot - (o.0 + 1)) ++ z) (slots_own i e ∙ ap (λ z. z ∷ []) (at_e ∙ at_end))
+          slots_append i ts (took_by i (x ∷ [])) ∙ ap (λ z. z ++ slots_by i (took_by i (x ∷ []))) o.2
+          ∙ ap (λ z. count_up (o.0 + 1) (n.learner.slot - (o.0 + 1)) ++ z) (slots_own i x ∙ ap (λ z. z ∷ []) (at_e ∙ at_end))
           ∙ count_push (o.0 + 1) (n.learner.slot - (o.0 + 1)) ∙ ap (λ z. count_up (o.0 + 1) z) len
 
   -- one act after another
@@ -129,7 +130,7 @@ module _ (B : Inc → ℕ → Type 0) (g : Group) where
   took_also at ts i e f k =
       let n : Node = (f e.node).node in
       let k1 = subst (λ x. TookOk B g x ((ts ++ took_by i e.took) ++ took_by i (f e.node).took)) (put_twice at i e.node n) k in
-      subst (λ x. TookOk B g (put_node at i n) x) (append_assoc ts (took_by i e.took) (took_by i (f e.node).took) ∙ ap (λ x. ts ++ x) (sym (map_append (λ (x : Entry). record { by = i; entry = x }) e.took (f e.node).took))) k1
+      subst (λ x. TookOk B g (put_node at i n) x) (append_assoc ts (took_by i e.took) (took_by i (f e.node).took) ∙ ap (λ x. ts ++ x) (sym (map_append (λ (x : Taken). record { by = i; taken = x }) e.took (f e.node).took))) k1
 
   took_forgets : (at : Nodes) (ts : List Took) (i : Inc) (e : Effect) → TookAfter B g at ts i e → TookAfter B g at ts i (also e forgets)
   took_forgets at ts i e k = took_also at ts i e forgets (took_keeps (put_node at i e.node) (ts ++ took_by i e.took) i e.node (forgets e.node) k (put_same at i e.node) (keeps_forgets e.node))

@@ -2,29 +2,29 @@
 use Rattle.std.proofs.Common.{◌≡◌, ℕ, ◌+◌, ◌-◌, ◌<◌, ◌≤◌, Bool, true, false, not, inl, inr, ◌&&◌, Option, Some, None, List, [], ◌∷◌, ◌++◌, length, ltb, eqb, refl, sym, ap, ◌∙◌, subst, arith, append_assoc}
 use Rattle.std.specs.Prelude.{is_some, fold, min, flat_map, option_map}
 use Rattle.std.specs.List.{list_any}
-use Rattle.std.proofs.lemmas.Bool.{false≢true, ltb-true, eqb-true, lt-ltb, and_parts, not-true, cond_both}
+use Rattle.std.proofs.lemmas.Bool.{false≢true, ltb-true, eqb-true, and_parts, not-true, cond_both}
 use Rattle.gr_ids.specs.Names.{ballot_lt, inc_eq}
 use Rattle.node_rules.specs.Acceptor.{forget_votes}
 use Rattle.node_rules.specs.Chosen.{Cast}
 use Rattle.node_rules.specs.Leader.{Leader, forget_proposals}
 use Rattle.node_rules.specs.Learner.{Learner, decided_at, next_entry, forget_decided}
 use Rattle.node_rules.specs.Lists.{In}
-use Rattle.node_rules.specs.Node.{Node, Told, Effect, quiet, also}
+use Rattle.node_rules.specs.Node.{takes_effect, Node, Told, Effect, quiet, also}
 use Rattle.node_rules.specs.Slots.{Entry}
-use Rattle.node_rules.specs.Taking.{least_told, forget, forgets, takes_effect, take_entry, take_next, take}
+use Rattle.node_rules.specs.Taking.{least_told, forget, forgets, take_entry, take_next, take}
 use Rattle.node_rules.specs.Voting.{promises}
-use Rattle.node_rules.specs.Welcoming.{Shown, is_in_order, is_for, is_recovering, turns_in, higher_ballot, welcomed, hear_welcome}
+use Rattle.node_rules.specs.Welcoming.{Shown, is_in_order, is_for, is_recovering, told_in, higher_ballot, welcomed, hear_welcome}
 use Rattle.node_rules.specs.World.{Took, put_node, casts_by, took_by, greet_by, greets, takes}
-use Rattle.order_laws.specs.Names.{Inc, Ballot, What, Noop, Add, Remove, Body, Joiner, Message, Welcome, WelcomeMember}
-use Rattle.slot_values.specs.Log.{Group, Turns, config, after, turn, is_kept, has_effect, forget_configs}
+use Rattle.order_laws.specs.Names.{Taken, Inc, Ballot, Value, What, Noop, Add, Remove, Body, Joiner, Message, Welcome, WelcomeMember}
+use Rattle.slot_values.specs.Log.{Group, Reading, became, Turns, turns_from, config, after, turn, is_kept, has_effect, forget_configs}
 use Rattle.order_laws.proofs.Order.{lt_same, lt_le, le_round}
 use Rattle.order_laws.proofs.Lists.{in_left, in_push, in_from, in_flat, at_slot-slot, at_slot-in, at_slot-from}
 use Rattle.order_laws.proofs.Agree.{Decided}
-use Rattle.order_laws.proofs.Inv.{Nodes, Begun, Stands, Greeted, LeaderOk, NodeOk, MsgOk, Inv, put_same, put_twice, Rises, put_rises, leader_rises, silent}
+use Rattle.order_laws.proofs.Inv.{Nodes, TookWell, Begun, Stands, Greeted, LeaderOk, NodeOk, MsgOk, Inv, put_same, put_twice, Rises, put_rises, leader_rises, silent}
 use Rattle.order_laws.proofs.Votes.{begun_grows}
 use Rattle.order_laws.proofs.Acts.{append_nil, InvAfter, after_quiet, safe_quiet, safe_also, inv_same, adds, promised_ok}
 use Rattle.order_laws.proofs.Leads.{advanced_up}
-use Rattle.order_laws.proofs.Logs.{stands_turn, turn-slot, stands_forget, greeted, kept_alike, effect_alike}
+use Rattle.order_laws.proofs.Logs.{stands_turn, turn-slot, stands_forget, greeted, became_alike, kept_alike, effect_alike}
 
 -- ---- forgetting
 
@@ -76,8 +76,7 @@ inv_forget g i k n at ws cs ts handed inv here =
     turns_ok (Some y) q w h =
         let s = ok.learner.turns y q in
         let z : forget_configs k y ≡ w = cc in
-        let b : k ≤ y.slot + 1 = omega (arith, handed, s.1) in
-        subst (λ v. Stands g cs v × (n.learner.slot ≡ v.slot + 1) × (1 ≤ n.acceptor.promise.round)) z (stands_forget g cs k y b s.0, s.1, s.2)
+        subst (λ v. Stands g cs v × (n.learner.slot ≡ v.slot + 1) × (1 ≤ n.acceptor.promise.round)) z (stands_forget g cs k y s.0, s.1, s.2)
 
     ok' : n.acceptor.low < k → NodeOk g (put_node at i m) cs i m
     ok' lt = record {
@@ -104,7 +103,7 @@ safe_forgets g i n at ws cs ts inv here = after_quiet g at ws cs ts i (forget (l
 
 -- ---- a slot taken
 
-inv_took : (g : Group) (at : Nodes) (ws : List Message) (cs : List Cast) (ts : List Took) (x : Took) → Inv g at ws cs ts → Decided g cs x.entry.slot x.entry.value → Inv g at ws cs (ts ++ x ∷ [])
+inv_took : (g : Group) (at : Nodes) (ws : List Message) (cs : List Cast) (ts : List Took) (x : Took) → Inv g at ws cs ts → TookWell g cs x.taken → Inv g at ws cs (ts ++ x ∷ [])
 inv_took g at ws cs ts x inv d = record {
   proposed = inv.proposed;
   one = inv.one;
@@ -113,7 +112,7 @@ inv_took g at ws cs ts x inv d = record {
   voters = inv.voters;
   nodes = inv.nodes;
   wire = inv.wire;
-  took = λ y h. elim (in_push y ts x h) [ inl q ↦ inv.took y q | inr q ↦ subst (λ z. Decided g cs z.entry.slot z.entry.value) q d ];
+  took = λ y h. elim (in_push y ts x h) [ inl q ↦ inv.took y q | inr q ↦ subst (λ z. TookWell g cs z.taken) q d ];
 }
 
 -- the next entry is decided, and next
@@ -134,13 +133,13 @@ safe_take_next g i n at ws cs ts inv here = go n.turns refl (next_entry n.learne
     go None e p f = safe_quiet g i n at ws cs ts inv here
     go (Some w) e None f = safe_quiet g i n at ws cs ts inv here
     go (Some w) e (Some d) f =
-        subst (λ z. Inv g (put_node at i m) (ws ++ []) z (ts ++ x ∷ [])) (sym (append_nil cs)) (inv_took g (put_node at i m) (ws ++ []) cs ts x (silent g at ws cs ts i n m [] inv here (lt_same n.acceptor.promise) (omega arith) ok' (λ y h. absurd h)) dec)
+        subst (λ z. Inv g (put_node at i m) (ws ++ []) z (ts ++ x ∷ [])) (sym (append_nil cs)) (inv_took g (put_node at i m) (ws ++ []) cs ts x (silent g at ws cs ts i n m [] inv here (lt_same n.acceptor.promise) (omega arith) ok' (λ y h. absurd h)) well)
       where
         m : Node
         m = (take_entry n w d).node
 
         x : Took
-        x = record { by = i; entry = d }
+        x = record { by = i; taken = record { slot = d.slot; value = d.value; kept = became w.reading d.value } }
 
         next : (n.learner.slot < n.learner.next) × (decided_at n.learner n.learner.slot ≡ Some d)
         next = next-entry n.learner d f
@@ -153,6 +152,9 @@ safe_take_next g i n at ws cs ts inv here = go n.turns refl (next_entry n.learne
 
         at_w : d.slot ≡ w.slot + 1
         at_w = at_slot-slot (λ e. e.slot) n.learner.decided n.learner.slot d next.1 ∙ s.1
+
+        well : TookWell g cs x.taken
+        well = record { decided = dec; log = (s.0).log; log_decided = (s.0).log_decided; slot = at_w ∙ ap (λ z. z + 1) (s.0).slot; kept = became_alike w.reading (after g (s.0).log) d.value (s.0).reading }
 
         s' : Stands g cs (turn w d.value)
         s' = stands_turn g cs w d.value s.0 (subst (λ z. Decided g cs z d.value) at_w dec)
@@ -181,6 +183,13 @@ safe_take g i n at ws cs ts inv here = safe_also g at ws cs ts i (take_next n n.
 
 -- ---- the Welcome sent
 
+kept_with_effect : (r : Reading) (v : Value) → takes_effect (became r v) ≡ true → (is_kept r v ≡ true) × (has_effect r v.what ≡ true)
+kept_with_effect r v h = go (is_kept r v) refl
+  where
+    go : (u : Bool) → is_kept r v ≡ u → (is_kept r v ≡ true) × (has_effect r v.what ≡ true)
+    go true e = (e, rw e at h)
+    go false e = let k : false ≡ true = rw e at h in absurd (false≢true k)
+
 forget-turns : (k : ℕ) (m : Node) (u : Turns) → m.turns ≡ Some u → (u' : Turns) × ((forget k m).turns ≡ Some u') × (u'.slot ≡ u.slot)
 unfolding forget
 forget-turns k m u h =
@@ -192,13 +201,16 @@ taken_by n o p = also (take_next n o p) forgets
 
 said_ok : (g : Group) (s : Option Shown) (i : Inc) (n : Node) (at : Nodes) (ws : List Message) (cs : List Cast) (ts : List Took) → Inv g at ws cs ts → at i ≡ Some n
     → (o : Option Turns) → n.turns ≡ o → (p : Option Entry) → next_entry n.learner ≡ p → InvAfter g at ws cs ts i (taken_by n o p)
-    → (x : Message) → In x (flat_map (greets s o (taken_by n o p).node) (taken_by n o p).took) → MsgOk g (put_node at i (taken_by n o p).node) (cs ++ casts_by i (taken_by n o p).cast) x
+    → (x : Message) → In x (flat_map (greets s (taken_by n o p).node) (taken_by n o p).took) → MsgOk g (put_node at i (taken_by n o p).node) (cs ++ casts_by i (taken_by n o p).cast) x
 said_ok g s i n at ws cs ts inv here None e p f inv' x h = absurd h
 said_ok g s i n at ws cs ts inv here (Some w) e None f inv' x h = absurd h
-said_ok g s i n at ws cs ts inv here (Some w) e (Some d) f inv' x h = told (in_flat (greets s (Some w) m) (d ∷ []) x h)
+said_ok g s i n at ws cs ts inv here (Some w) e (Some d) f inv' x h = told (in_flat (greets s m) (t ∷ []) x h)
   where
     m : Node
     m = (taken_by n (Some w) (Some d)).node
+
+    t : Taken
+    t = record { slot = d.slot; value = d.value; kept = became w.reading d.value }
 
     cs' : List Cast
     cs' = cs ++ []
@@ -227,9 +239,9 @@ said_ok g s i n at ws cs ts inv here (Some w) e (Some d) f inv' x h = told (in_f
     u_slot : (u.0).slot ≡ w.slot + 1
     u_slot = u.2 ∙ turn-slot w d.value
 
-    begun : (j : Joiner) → d.value.what ≡ Add j → takes_effect w.reading d.value ≡ true → Begun g cs' j.inc (u.0).slot
+    begun : (j : Joiner) → d.value.what ≡ Add j → takes_effect (became w.reading d.value) ≡ true → Begun g cs' j.inc (u.0).slot
     begun j a t =
-        let p = and_parts (is_kept w.reading d.value) (has_effect w.reading d.value.what) t in
+        let p = kept_with_effect w.reading d.value t in
         let b : Begun g cs j.inc (w.slot + 1) = record {
           before = (st.0).log;
           before_decided = (st.0).log_decided;
@@ -244,31 +256,31 @@ said_ok g s i n at ws cs ts inv here (Some w) e (Some d) f inv' x h = told (in_f
         } in
         subst (λ z. Begun g cs' j.inc z) (sym u_slot) (begun_grows g cs cs' (λ c k. in_left c cs [] k) j.inc (w.slot + 1) b)
 
-    welcome : (v : Shown) → takes_effect w.reading d.value ≡ true → (q : What) → d.value.what ≡ q → In x (greet_by m (Some u.0) q v) → MsgOk g (put_node at i m) cs' x
+    welcome : (v : Shown) → takes_effect (became w.reading d.value) ≡ true → (q : What) → d.value.what ≡ q → In x (greet_by m (Some u.0) q v) → MsgOk g (put_node at i m) cs' x
     welcome v t Noop a k = absurd k
     welcome v t (Remove j) a k = absurd k
     welcome v t (Body b) a k = absurd k
     welcome v t (Add j) a k =
         let l = ok'.learner.turns u.0 u.1 in
         elim k [
-          | inl q ↦ subst (λ z. MsgOk g (put_node at i m) cs' z) q (greeted g cs' j.inc m u.0 v ok'.horizon l.2 l.0 (begun j a t))
+          | inl q ↦ subst (λ z. MsgOk g (put_node at i m) cs' z) q (greeted g cs' j.inc m u.0 v l.2 l.0 (begun j a t))
           | inr q ↦ absurd q
         ]
 
-    shown : (s : Option Shown) → In x (greets s (Some w) m d) → MsgOk g (put_node at i m) cs' x
+    shown : (s : Option Shown) → In x (greets s m t) → MsgOk g (put_node at i m) cs' x
     shown None k = absurd k
     shown (Some v) k =
-        cond_both (takes_effect w.reading d.value) (greet_by m m.turns d.value.what v) [] (λ l. In x l → MsgOk g (put_node at i m) cs' x)
+        cond_both (takes_effect (became w.reading d.value)) (greet_by m m.turns d.value.what v) [] (λ l. In x l → MsgOk g (put_node at i m) cs' x)
         (λ t z. welcome v t d.value.what refl (subst (λ o. In x (greet_by m o d.value.what v)) u.1 z)) (λ t z. absurd z) k
 
-    told : (y : Entry) × In y (d ∷ []) × In x (greets s (Some w) m y) → MsgOk g (put_node at i m) cs' x
-    told r = elim r.1 [ inl q ↦ shown s (subst (λ y. In x (greets s (Some w) m y)) (sym q) r.2) | inr q ↦ absurd q ]
+    told : (y : Taken) × In y (t ∷ []) × In x (greets s m y) → MsgOk g (put_node at i m) cs' x
+    told r = elim r.1 [ inl q ↦ shown s (subst (λ y. In x (greets s m y)) (sym q) r.2) | inr q ↦ absurd q ]
 
 pub safe_takes : (g : Group) (s : Option Shown) (i : Inc) (n : Node) (at : Nodes) (ws : List Message) (cs : List Cast) (ts : List Took) → Inv g at ws cs ts → at i ≡ Some n → InvAfter g at ws cs ts i (takes s n)
 unfolding take
 safe_takes g s i n at ws cs ts inv here =
     let e : Effect = also (take_next n n.turns (next_entry n.learner)) forgets in
-    let ms : List Message = flat_map (greets s n.turns e.node) e.took in
+    let ms : List Message = flat_map (greets s e.node) e.took in
     let inv' : InvAfter g at ws cs ts i e = safe_take g i n at ws cs ts inv here in
     let k = adds g (put_node at i e.node) (ws ++ e.sent) (cs ++ casts_by i e.cast) (ts ++ took_by i e.took) i e.node ms inv' (put_same at i e.node) (said_ok g s i n at ws cs ts inv here n.turns refl (next_entry n.learner) refl inv') in
     subst (λ z. Inv g (put_node at i e.node) z (cs ++ casts_by i e.cast) (ts ++ took_by i e.took)) (append_assoc ws e.sent ms) k
@@ -347,7 +359,7 @@ safe_welcome g i x n at ws cs ts gr inv here = cond_both (not (is_some n.turns) 
         low_m : n.acceptor.low ≤ x.slot + 1
         low_m = omega (arith, ok.learner.low, ok.learner.slot, zero_next)
 
-        stands : Stands g cs (turns_in x)
+        stands : Stands g cs (turns_from (told_in x))
         stands = record {
           log = gr.log;
           log_decided = gr.log_decided;
@@ -358,7 +370,7 @@ safe_welcome g i x n at ws cs ts gr inv here = cond_both (not (is_some n.turns) 
           configs = λ t b h.
               let c = gr.configs (t - (x.slot + 1)) (omega arith) in
               let r : x.slot + ((t - (x.slot + 1)) + 1) ≡ t = omega arith in
-              rw (lt-ltb x.slot t b) (c ∙ ap (λ z. Some (config g gr.log z)) r);
+              c ∙ ap (λ z. Some (config g gr.log z)) r;
         }
 
         ok' : NodeOk g (put_node at0 i m) cs i m
@@ -371,7 +383,7 @@ safe_welcome g i x n at ws cs ts gr inv here = cond_both (not (is_some n.turns) 
             low = low_m;
             slot = up;
             unwelcomed = λ q. absurd (cc);
-            turns = λ y q. let z : turns_in x ≡ y = cc in subst (λ v. Stands g cs v × (x.slot + 1 ≡ v.slot + 1) × (1 ≤ hb.round)) z (stands, refl, higher_round n.acceptor.promise x.promise gr.round);
+            turns = λ y q. let z : turns_from (told_in x) ≡ y = cc in subst (λ v. Stands g cs v × (x.slot + 1 ≡ v.slot + 1) × (1 ≤ hb.round)) z (stands, refl, higher_round n.acceptor.promise x.promise gr.round);
           };
           leader = λ l q. leader_rises at0 (put_node at0 i m) (put_rises at0 i m0 m here0 (lt_same hb) nx) g cs i hb m0.learner.next m.learner.next n.acceptor.low l nx (ok0.leader l q);
         }

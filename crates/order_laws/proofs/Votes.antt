@@ -10,12 +10,12 @@ use Rattle.node_rules.specs.Node.{Node, first_ballot}
 use Rattle.node_rules.specs.Learner.{Learner}
 use Rattle.node_rules.specs.Slots.{put_slot}
 use Rattle.node_rules.specs.World.{Took, put_node}
-use Rattle.order_laws.specs.Names.{Inc, Ballot, Value, Vote, Welcome, Wire, Prepare, Promise, Accept, Accepted, Learn, Offer, Greet, Ask, Give, Alive, Gone, Message}
+use Rattle.order_laws.specs.Names.{Taken, Inc, Ballot, Value, Vote, Welcome, Wire, Prepare, Promise, Accept, Accepted, Learn, Offer, Greet, Ask, Give, Alive, Gone, Message}
 use Rattle.slot_values.specs.Log.{Group, config, Turns}
 use Rattle.order_laws.proofs.Order.{inc_same, lt_same, le_trans}
 use Rattle.order_laws.proofs.Lists.{in_left, in_push, in_last, in_put, majority_more, cast-in, has-cast, at_slot-put_same, at_slot-put_other}
 use Rattle.order_laws.proofs.Agree.{Decided, decided, LogDecided, Report}
-use Rattle.order_laws.proofs.Inv.{Nodes, Upto, Begun, Stands, Greeted, Ranked, AcceptorOk, LearnerOk, KeptOk, LeaderOk, NodeOk, WireOk, Backed, Inv, put_same, put_cases, Rises, put_rises, node_rises, wire_rises, backed_rises}
+use Rattle.order_laws.proofs.Inv.{Nodes, Upto, Begun, TookWell, Stands, Greeted, Ranked, AcceptorOk, LearnerOk, KeptOk, LeaderOk, NodeOk, WireOk, Backed, Inv, put_same, put_cases, Rises, put_rises, node_rises, wire_rises, backed_rises}
 
 abbrev pub More : List Cast → List Cast → Type 0
 More cs cs' = (c : Cast) → In c cs → In c cs'
@@ -38,6 +38,9 @@ module _ (g : Group) (cs cs' : List Cast) (m : More cs cs') where
 
   pub begun_grows : (i : Inc) (s : ℕ) → Begun g cs i s → Begun g cs' i s
   begun_grows i s b = record { before = b.before; before_decided = log_grows b.before b.before_decided; slot = b.slot; value = b.value; value_decided = decided_grows g cs cs' m b.value_decided; joiner = b.joiner; adds = b.adds; names = b.names; kept = b.kept; effect = b.effect }
+
+  pub took_grows : (x : Taken) → TookWell g cs x → TookWell g cs' x
+  took_grows x k = record { decided = decided_grows g cs cs' m k.decided; log = k.log; log_decided = log_grows k.log k.log_decided; slot = k.slot; kept = k.kept }
 
   pub stands_grows : (w : Turns) → Stands g cs w → Stands g cs' w
   stands_grows w s = record { log = s.log; log_decided = log_grows s.log s.log_decided; slot = s.slot; reading = s.reading; base = s.base; room = s.room; configs = s.configs }
@@ -264,7 +267,7 @@ module _ (g : Group) (at : Nodes) (ws : List Message) (cs : List Cast) (ts : Lis
       ];
       nodes = node_voted;
       wire = λ y h. wire_rises at (put_node at i (voted_node lead)) rises_voted g after_vote y.from y.to y.wire (wire_grows g at cs after_vote grown fresh_vote y.from y.to y.wire (inv.wire y h));
-      took = λ y h. decided_grows g cs after_vote grown (inv.took y h);
+      took = λ y h. took_grows g cs after_vote grown y.taken (inv.took y h);
     }
       where
         one_value : (t : ℕ) (b : Ballot) (u v : Value) → In (cast_of b.inc t b u) cs ⊎ (voted i x ≡ cast_of b.inc t b u) → In (cast_of b.inc t b v) cs ⊎ (voted i x ≡ cast_of b.inc t b v) → u ≡ v

@@ -1,7 +1,7 @@
 -- The laws of the order, as statements on a world.
 use Rattle.std.specs.Prelude.{ℕ, zero, suc, true, false, ◌+◌, ◌-◌, ◌≡◌, ◌<◌, ◌≤◌, ◌⊎◌, length, Some, None, List, [], ◌∷◌, ◌++◌, map, filter, slice_get}
 use Rattle.gr_ids.specs.Names.{inc_eq, has_inc}
-use Rattle.slot_values.specs.Log.{Group, Turns, config, config_of, after, is_kept, has_effect}
+use Rattle.slot_values.specs.Log.{Group, Turns, config, config_of, after, became, is_kept, has_effect}
 use Rattle.node_rules.specs.Lists.{In}
 use Rattle.node_rules.specs.Chosen.{Cast, IsChosen, IsChosenLog}
 use Rattle.node_rules.specs.Node.{Node}
@@ -23,21 +23,25 @@ OneLog g w = (xs ys : List Value) → IsChosenLog g w.cast xs → IsChosenLog g 
 
 -- No two incarnations differ in the value of a slot that they took.
 abbrev pub TakenAlike : Group → World → Type 0
-TakenAlike g w = (x y : Took) → In x w.took → In y w.took → x.entry.slot ≡ y.entry.slot → x.entry.value ≡ y.entry.value
+TakenAlike g w = (x y : Took) → In x w.took → In y w.took → x.taken.slot ≡ y.taken.slot → x.taken.value ≡ y.taken.value
 
 -- Each incarnation that may take slots has read a log of chosen values to its last slot: places, members with their last kept numbers, and configurations are those of the log.
--- (The last kept numbers of members that were removed before a joiner's Add are not told to it.)
+-- (The last kept numbers of members that were removed before a joiner's Add are not told to it. The configurations after `base`, from `low` on, are those that aren't forgotten.)
 abbrev pub Follows : Group → World → Type 0
 Follows g w = (i : Inc) (n : Node) (t : Turns) → w.at i ≡ Some n → n.turns ≡ Some t
     → (log : List Value) × IsChosenLog g w.cast log × (t.slot ≡ length log)
     × (t.reading.place ≡ (after g log).place) × (t.reading.members ≡ (after g log).members) × (t.reading.ever ≡ (after g log).ever)
-    × ((s : ℕ) → t.base < s → s ≤ t.slot + g.horizon → config_of t s ≡ Some (config g log s))
+    × ((s : ℕ) → t.base < s → t.low ≤ s → s ≤ t.slot + g.horizon → config_of t s ≡ Some (config g log s))
+
+-- What each value taken became, kept at a place with effect or not, or skipped, is what it becomes after the log of chosen values before it.
+abbrev pub KeptAsInLog : Group → World → Type 0
+KeptAsInLog g w = (x : Took) → In x w.took → (log : List Value) × IsChosenLog g w.cast log × (x.taken.slot ≡ length log + 1) × IsChosen g w.cast log x.taken.slot x.taken.value × (x.taken.kept ≡ became (after g log) x.taken.value)
 
 -- ---- consecutive slots
 
 -- the slots that an incarnation took, in order
 abbrev pub slots_by : Inc → List Took → List ℕ
-slots_by i xs = map (λ x. x.entry.slot) (filter (λ x. inc_eq x.by i) xs)
+slots_by i xs = map (λ x. x.taken.slot) (filter (λ x. inc_eq x.by i) xs)
 
 -- these many numbers from s on
 abbrev pub count_up : ℕ → ℕ → List ℕ
@@ -60,4 +64,4 @@ Consecutive g w = (i : Inc) (n : Node) → w.at i ≡ Some n
 
 -- Each value that is taken is a Noop, or was made by its origin.
 abbrev pub MadeBefore : Group → World → Type 0
-MadeBefore g w = (x : Took) → In x w.took → (x.entry.value.what ≡ Noop) ⊎ In x.entry.value w.made
+MadeBefore g w = (x : Took) → In x w.took → (x.taken.value.what ≡ Noop) ⊎ In x.taken.value w.made

@@ -1,7 +1,7 @@
 //! The laws of the order: what holds of every run of a world of nodes, whatever is lost, repeated, reordered, stopped and started.
 #![tactic(auto)]
 
-ghost use Rattle.order_laws.specs.Laws.{InEveryRun, AtMostOneChosen, OneLog, TakenAlike, Follows, Consecutive, MadeBefore};
+ghost use Rattle.order_laws.specs.Laws.{InEveryRun, AtMostOneChosen, OneLog, TakenAlike, KeptAsInLog, Follows, Consecutive, MadeBefore};
 
 /// In each slot at most one value is chosen, over every change of the members: a majority of the slot's configuration voted
 /// for it at one ballot. A vote that was cast and forgotten counts, and so does one of a node that stopped.
@@ -11,10 +11,12 @@ pub fn one_value_in_each_slot()
     ensures log { InEveryRun OneLog }
 {}
 
-/// Members take parts of one list: no two incarnations differ in the value of a slot that they took, and the kept list, the
-/// members and the configurations that each knows are those of one log of chosen values.
+/// Members take parts of one list: no two incarnations differ in the value of a slot that they took; what it became, kept at
+/// its place with effect or not, or skipped, is what the log of chosen values before it gives; and the members and the
+/// configurations that each incarnation knows are those of a log of chosen values.
 pub fn one_list()
     ensures taken { InEveryRun TakenAlike }
+    ensures kept { InEveryRun KeptAsInLog }
     ensures follows { InEveryRun Follows }
 {}
 
