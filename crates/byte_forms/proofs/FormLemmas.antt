@@ -1,17 +1,20 @@
 -- The two sides of the basic forms, and how forms are put together.
-use Rattle.std.proofs.Common.{◌≡◌, ℕ, zero, suc, ◌+◌, ◌-◌, ◌*◌, ◌/◌, ◌%◌, ◌^◌, ◌<◌, ◌≤◌, Bool, true, false, ◌&&◌, List, [], ◌∷◌, ◌++◌, length, take, drop, Option, Some, None, refl, sym, ap, subst, ◌∙◌, arith, append_assoc}
+use Rattle.std.proofs.Common.{◌≡◌, ℕ, zero, suc, ◌+◌, ◌-◌, ◌*◌, ◌/◌, ◌%◌, ◌^◌, ◌<◌, ◌≤◌, Bool, true, false, ◌&&◌, List, [], ◌∷◌, ◌++◌, length, take, drop, Option, Some, None, refl, sym, ap, subst, ◌∙◌, arith, append_assoc, length-append}
+use Rattle.std.proofs.lemmas.List.{take_at, drop_at}
 use Rattle.std.specs.List.{flat_map}
 use Rattle.byte_forms.specs.Numbers.{number, number_of, are_bytes}
 use Rattle.byte_forms.specs.Reads.{Read, Got, Fault, Reader, go_on, ◌>>=◌, pure}
 use Rattle.byte_forms.specs.Fields.{field, word, begins_number, number_in}
 use Rattle.byte_forms.specs.Lists.{several, counted, elements, IsChain, list_of, bytes_in}
 use Rattle.byte_forms.specs.Forms.{IsForm}
-use Rattle.byte_forms.proofs.FieldLemmas.{go_on-got, field-again, field-got, number_in-again, number_in-got}
+use Rattle.byte_forms.proofs.FieldLemmas.{go_on-got, word-whole, word-got, number_in-again, number_in-got}
 
 pub word_form : (n : ℕ) → IsForm (λ bytes. length bytes ≡ n) (λ bytes. bytes) (word n)
 word_form n = record {
-  reads = λ x rest fits. subst (λ (k : ℕ). word k (x ++ rest) ≡ Got x rest) fits (field-again (λ _. true) x rest (λ front more e. refl));
-  spells = λ bytes rest x e. (let f = field-got (λ _. true) n bytes x rest e in (f.long, f.parts));
+  reads = λ x rest fits.
+      (let enough : n ≤ length (x ++ rest) = omega (arith, length-append x rest) in
+      rw (word-whole n (x ++ rest) enough, take_at x rest n fits, drop_at x rest n fits) refl);
+  spells = λ bytes rest x e. word-got n bytes x rest e;
 }
 
 pub number_form : (k low high : ℕ) → 0 < k → IsForm (λ n. (low ≤ n) × (n ≤ high) × (n < 256 ^ k)) (number k) (number_in k low high)
@@ -64,33 +67,35 @@ pub list_form : {A : Type 0} (least : ℕ) (Fits : Option A → A → Type 0) (s
     → IsForm (IsListed least Fits) (several spelling) (list_of least read)
 list_form {A} least Fits spelling read forms = record {
   reads = λ xs rest fits.
-    (let count = number_in-again 4 least 4294967295 (length xs) (flat_map spelling xs ++ rest) fits.1 (omega (arith, fits.2)) (omega (arith, fits.2)) in
-    let all = (elements_form Fits spelling read forms (length xs) None).reads xs rest (fits.0, refl) in
-    rw (append_assoc (number 4 (length xs)) (flat_map spelling xs) rest, count) all);
+      (let count = number_in-again 4 least 4294967295 (length xs) (flat_map spelling xs ++ rest) fits.1 (omega (arith, fits.2)) (omega (arith, fits.2)) in
+      let all = (elements_form Fits spelling read forms (length xs) None).reads xs rest (fits.0, refl) in
+      rw (append_assoc (number 4 (length xs)) (flat_map spelling xs) rest, count) all);
   spells = λ bytes rest xs e.
-    (let f = go_on-got (number_in 4 least 4294967295 bytes) (elements read None) xs rest e in
-    let count = number_in-got 4 least 4294967295 f.first bytes f.behind (omega arith) f.reads in
-    let all = (elements_form Fits spelling read forms f.first None).spells f.behind rest xs f.then_reads in
-    let is : length xs ≡ f.first = all.0.1 in
-    let at_least : least ≤ length xs = omega (arith, is, count.above) in
-    let small : length xs < 2 ^ 32 = omega (arith, is, count.small) in
-    ((all.0.0, at_least, small),
-    count.parts ∙ ap (λ ys. number 4 f.first ++ ys) all.1 ∙ ap (λ n. number 4 n ++ (flat_map spelling xs ++ rest)) (sym is) ∙ sym (append_assoc (number 4 (length xs)) (flat_map spelling xs) rest)));
+      (let f = go_on-got (number_in 4 least 4294967295 bytes) (elements read None) xs rest e in
+      let count = number_in-got 4 least 4294967295 f.first bytes f.behind (omega arith) f.reads in
+      let all = (elements_form Fits spelling read forms f.first None).spells f.behind rest xs f.then_reads in
+      let is : length xs ≡ f.first = all.0.1 in
+      let at_least : least ≤ length xs = omega (arith, is, count.above) in
+      let small : length xs < 2 ^ 32 = omega (arith, is, count.small) in (
+        (all.0.0, at_least, small),
+        count.parts ∙ ap (λ ys. number 4 f.first ++ ys) all.1 ∙ ap (λ n. number 4 n ++ (flat_map spelling xs ++ rest)) (sym is) ∙ sym (append_assoc (number 4 (length xs)) (flat_map spelling xs) rest),
+      ));
 }
 
 pub counted_form : (low high : ℕ) → IsForm (λ bytes. (low ≤ length bytes) × (length bytes ≤ high) × (length bytes < 2 ^ 32)) counted (bytes_in low high)
 counted_form low high = record {
   reads = λ xs rest fits.
-    (let count = number_in-again 4 low high (length xs) (xs ++ rest) fits.0 fits.1 fits.2 in
-    rw (append_assoc (number 4 (length xs)) xs rest, count) ((word_form (length xs)).reads xs rest refl));
+      (let count = number_in-again 4 low high (length xs) (xs ++ rest) fits.0 fits.1 fits.2 in
+      rw (append_assoc (number 4 (length xs)) xs rest, count) ((word_form (length xs)).reads xs rest refl));
   spells = λ bytes rest xs e.
-    (let f = go_on-got (number_in 4 low high bytes) word xs rest e in
-    let count = number_in-got 4 low high f.first bytes f.behind (omega arith) f.reads in
-    let all = (word_form f.first).spells f.behind rest xs f.then_reads in
-    let is : length xs ≡ f.first = all.0 in
-    let above : low ≤ length xs = omega (arith, is, count.above) in
-    let below : length xs ≤ high = omega (arith, is, count.below) in
-    let small : length xs < 2 ^ 32 = omega (arith, is, count.small) in
-    ((above, below, small),
-    count.parts ∙ ap (λ ys. number 4 f.first ++ ys) all.1 ∙ ap (λ n. number 4 n ++ (xs ++ rest)) (sym is) ∙ sym (append_assoc (number 4 (length xs)) xs rest)));
+      (let f = go_on-got (number_in 4 low high bytes) word xs rest e in
+      let count = number_in-got 4 low high f.first bytes f.behind (omega arith) f.reads in
+      let all = (word_form f.first).spells f.behind rest xs f.then_reads in
+      let is : length xs ≡ f.first = all.0 in
+      let above : low ≤ length xs = omega (arith, is, count.above) in
+      let below : length xs ≤ high = omega (arith, is, count.below) in
+      let small : length xs < 2 ^ 32 = omega (arith, is, count.small) in (
+        (above, below, small),
+        count.parts ∙ ap (λ ys. number 4 f.first ++ ys) all.1 ∙ ap (λ n. number 4 n ++ (xs ++ rest)) (sym is) ∙ sym (append_assoc (number 4 (length xs)) xs rest),
+      ));
 }
