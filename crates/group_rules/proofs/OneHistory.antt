@@ -1,8 +1,8 @@
 -- The history of a list of events is lawful, and each lawful history is that of its events.
-use Rattle.std.proofs.Common.{◌≡◌, List, [], ◌∷◌, refl, map}
+use Rattle.std.proofs.Common.{◌≡◌, List, [], ◌∷◌, refl}
 use Rattle.group_rules.specs.Events.{Event}
 use Rattle.group_rules.specs.Member.{Member}
-use Rattle.group_rules.specs.Histories.{Turn, History, turn_of, after, IsLawful, history_of, events}
+use Rattle.group_rules.specs.Histories.{History, turn_of, after, IsLawful, history_of, events}
 
 pub is_lawful : (a : Member) (es : List Event) → IsLawful a (history_of a es)
 is_lawful a [] = tt

@@ -1,9 +1,9 @@
 -- The spelling of each value, body and message in bytes. Numbers are big-endian; a list is its length in four bytes, then its elements.
-use Rattle.std.specs.Prelude.{ℕ, zero, suc, ◌+◌, ◌/◌, ◌%◌, ◌^◌, Bool, true, false, Option, Some, None, List, [], ◌∷◌, ◌++◌, length, flat_map, ◌==◌, nat_lt, if◌then◌else◌}
+use Rattle.std.specs.Prelude.{ℕ, zero, suc, ◌/◌, ◌%◌, ◌^◌, Bool, true, false, Option, Some, None, List, [], ◌∷◌, ◌++◌, length, flat_map}
 use Rattle.gr_ids.specs.Names.{bytes_eq}
 use Rattle.key_items.specs.Items.{item_eq}
 use Rattle.gtid_sets.specs.Sets.{Gtids}
-use Rattle.group_rules.specs.Names.{Inc, ValueId, Gtid, Ballot, OpenParts, LastNumber, MemberState, Online, Mode, Single, Multi, Run, ToldSet, Item, KeptItem, Change, ChangeKind, Inserts, Updates, Deletes, Joiner, Value, Vote, What, Noop, Add, Remove, Says, Txn, Part, ToMulti, ToSingle, Body, Writes, Prepared, Sync, Executed, Arrives, Switches, Appoints, PartOf, Message, Wire, Prepare, Promise, Accept, Accepted, Learn, Offer, Greet, Asks, Gives, Alive, Gone, Welcome, WelcomeMember, Ask, Give, Given}
+use Rattle.group_rules.specs.Names.{Inc, ValueId, Gtid, Ballot, OpenParts, LastNumber, MemberState, Online, Mode, Single, Multi, Run, ToldSet, Item, KeptItem, Change, ChangeKind, Inserts, Updates, Deletes, Joiner, Value, Vote, What, Noop, Add, Remove, Says, Txn, ToMulti, ToSingle, Body, Writes, Prepared, Sync, Executed, Arrives, Switches, Appoints, PartOf, Message, Wire, Prepare, Promise, Accept, Accepted, Learn, Offer, Greet, Asks, Gives, Alive, Gone, Welcome, WelcomeMember, Give, Given}
 
 -- the number in so many bytes
 abbrev pub number : ℕ → ℕ → List ℕ

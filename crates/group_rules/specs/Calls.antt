@@ -3,7 +3,7 @@
 use Rattle.std.specs.Prelude.{ℕ, ◌+◌, ◌-◌, ◌^◌, Bool, true, false, ◌&&◌, ◌||◌, not, Option, Some, None, List, [], ◌∷◌, length, min, nat_lt, nat_le, ◌==◌}
 use Rattle.gr_ids.specs.Names.{is_inc}
 use Rattle.key_items.specs.Items.{with_item}
-use Rattle.group_rules.specs.Names.{ValueId, Gtid, Item, Change, ChangeKind, Inserts, Updates, Deletes, Txn, Part, Body, Writes, Sync, PartOf, Says, Level, MemberState, Offline, Request, Begin, Get, Insert, Update, Delete, Commit, Rollback, Holder, Answer, Got, Sent, CommittedEmpty, RolledBack, Busy, NoTransaction, NotOnline, ReadOnly, RowLocked, DuplicateKey, NoRow, Killed, MemberLeft, TooLarge}
+use Rattle.group_rules.specs.Names.{ValueId, Gtid, Item, Change, ChangeKind, Inserts, Updates, Deletes, Txn, Part, Writes, Sync, PartOf, Says, Level, MemberState, Offline, Request, Begin, Get, Insert, Update, Delete, Commit, Rollback, Holder, Answer, Got, Sent, CommittedEmpty, RolledBack, Busy, NoTransaction, NotOnline, ReadOnly, RowLocked, DuplicateKey, NoRow, Killed, MemberLeft, TooLarge}
 use Rattle.group_rules.specs.Bytes.{body_bytes}
 use Rattle.group_rules.specs.View.{is_single}
 use Rattle.group_rules.specs.Events.{Called, Changed, AsksCommit}

@@ -1,6 +1,6 @@
 -- AFTER transactions: which members they require, when they are prepared and complete; and what may be committed.
 -- (MySQL 8.0 Reference Manual, Group Replication: Transaction Consistency Guarantees, AFTER.)
-use Rattle.std.specs.Prelude.{ℕ, Bool, true, false, ◌&&◌, ◌||◌, not, Option, Some, None, List, [], ◌∷◌, nat_lt}
+use Rattle.std.specs.Prelude.{Bool, true, false, ◌&&◌, ◌||◌, not, Option, Some, List, [], ◌∷◌, nat_lt}
 use Rattle.std.specs.List.{list_any, list_all}
 use Rattle.gr_ids.specs.Names.{inc_eq, has_inc, gtid_eq}
 use Rattle.gtid_sets.specs.Sets.{Gtids, has}

@@ -1,7 +1,7 @@
 -- What can happen to an incarnation, and what it leaves in its history.
-use Rattle.std.specs.Prelude.{ℕ, Bool, Option, Some, None, List, [], ◌∷◌}
+use Rattle.std.specs.Prelude.{ℕ, Option, Some, None, List, [], ◌∷◌}
 use Rattle.gtid_sets.specs.Sets.{Gtids}
-use Rattle.group_rules.specs.Names.{Inc, ValueId, Gtid, Item, Change, Joiner, Value, Txn, Body, Message, Welcome, Give, Limits, Mode, Level, MemberState, Request, Operator, Answer, BegunWith, IsChanged, Reply, Cause, Effect, Mark, TookMark, SkippedMark, DoneMark, CommittedMark, StateMark, GivenMark, AnsweredMark, RepliedMark}
+use Rattle.group_rules.specs.Names.{ValueId, Gtid, Item, Change, Joiner, Value, Txn, Body, Message, Welcome, Give, Limits, Mode, Level, MemberState, Request, Operator, Answer, BegunWith, IsChanged, Reply, Cause, Effect, Mark, TookMark, SkippedMark, DoneMark, CommittedMark, StateMark, GivenMark, AnsweredMark, RepliedMark}
 
 -- Of a worker's result it is the place, and the bytes of its body where the place is queued then.
 pub data Event : Type 0 where

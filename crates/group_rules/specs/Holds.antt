@@ -1,6 +1,6 @@
 -- What a begin waits for.
 -- (MySQL 8.0 Reference Manual, Group Replication: Transaction Consistency Guarantees; the exact conditions are this project's own.)
-use Rattle.std.specs.Prelude.{ℕ, suc, Bool, true, false, ◌&&◌, ◌||◌, not, Option, Some, None, List, [], ◌∷◌, filter, map, nat_lt}
+use Rattle.std.specs.Prelude.{ℕ, suc, Bool, true, false, ◌&&◌, ◌||◌, not, Option, Some, None, List, [], filter, map, nat_lt}
 use Rattle.std.specs.List.{list_any, list_all}
 use Rattle.gr_ids.specs.Names.{is_inc, gtid_eq}
 use Rattle.group_rules.specs.Names.{Inc, ValueId, Gtid, Level, Eventual, Before, After, BeforeAndAfter}

@@ -7,15 +7,15 @@ use Rattle.slot_values.specs.Values.{is_noop}
 use Rattle.slot_values.specs.Log.{became}
 use Rattle.slot_values.specs.declared.kept.Kept.TheVariants.{Skipped as IsSkipped}
 use Rattle.node_rules.specs.Lists.{In}
-use Rattle.group_rules.specs.Names.{Inc, Gtid, Item, Change, Joiner, Level, Eventual, Value, What, Add, Txn, Body, Writes as HasTxn, Welcome, CommittedAs}
-use Rattle.group_rules.specs.View.{View, is_seated}
-use Rattle.group_rules.specs.Events.{Did, Founds, Took, Skips, Made, Enters, Called, Begun, Answered, Life, Setup, Entry, Cert, OfflineWrite}
+use Rattle.group_rules.specs.Names.{Inc, Item, Change, Joiner, Level, Value, Add, Txn, Body, Writes as HasTxn, Welcome, CommittedAs}
+use Rattle.group_rules.specs.View.{is_seated}
+use Rattle.group_rules.specs.Events.{Did, Took, Skips, Made, Enters, Called, Begun, Answered, Life, Setup, Entry, Cert, OfflineWrite}
 use Rattle.group_rules.specs.Life.{state, is_up, executed, view, taken, entry_at, certs}
 use Rattle.group_rules.specs.Commit.{complete}
 use Rattle.group_rules.specs.Sessions.{Call, last_call}
 use Rattle.group_rules.specs.Rows.{fits, row_after, row_in, row_of}
 use Rattle.group_rules.specs.Holds.{has_sync, is_eventual}
-use Rattle.group_rules.specs.World.{Past, Happening, Does, Writes, Halts, life_in}
+use Rattle.group_rules.specs.World.{Past, Does, Writes, Halts, life_in}
 use Rattle.group_rules.specs.OneList.{listed, reading_of, value_at, before_slot, first_places}
 
 -- at some time this was all that had happened

@@ -2,8 +2,8 @@
 use Rattle.std.specs.Prelude.{ℕ, suc, Bool, true, false, ◌&&◌, Option, Some, None, List, [], ◌∷◌, ◌++◌, reverse, map, ◌==◌}
 use Rattle.gr_ids.specs.Names.{inc_eq}
 use Rattle.gtid_sets.specs.Sets.{Gtids, with_gtid}
-use Rattle.group_rules.specs.Names.{Inc, ValueId, MemberState, Offline, Recovering, Online, Error, What, Txn, Body, Writes, Arrives, Effect, Positive, Welcome, WelcomeMember}
-use Rattle.group_rules.specs.View.{View, Seat, no_view, founding, next_view}
+use Rattle.group_rules.specs.Names.{Inc, ValueId, MemberState, Offline, Recovering, Online, Error, Body, Writes, Arrives, Effect, Positive, Welcome, WelcomeMember}
+use Rattle.group_rules.specs.View.{View, no_view, founding, next_view}
 use Rattle.group_rules.specs.Events.{Founds, Starts, Came, Made, Took, Committed, Is, Enters, Restores, Life, Entry, Cert, Stored, Setup, Ticks}
 
 -- its own state: that of its last State mark

@@ -1,16 +1,14 @@
 -- What a look shows of a member.
-use Rattle.std.specs.Prelude.{ℕ, Bool, true, false, Option, Some, None, List, [], ◌∷◌, map}
+use Rattle.std.specs.Prelude.{ℕ, true, false, Some, None, List, [], ◌∷◌, map}
 use Rattle.gr_ids.specs.Names.{inc_eq, is_inc}
 use Rattle.gtid_sets.specs.Sets.{Gtids}
 use Rattle.key_items.specs.Items.{with_item}
 use Rattle.node_rules.specs.Node.{promised, node_config, kept_from}
-use Rattle.group_rules.specs.Names.{Inc, Item, KeptItem, Change}
+use Rattle.group_rules.specs.Names.{Item, KeptItem, Change}
 use Rattle.group_rules.specs.declared.said.Shown.{Shown}
 use Rattle.group_rules.specs.declared.said.Shown.TheVariants.{State as InState, Unreachable}
 use Rattle.group_rules.specs.declared.said.ShownMember.{ShownMember}
 use Rattle.group_rules.specs.declared.said.Row.{Row}
-use Rattle.group_rules.specs.declared.said.QueuedPlace.{QueuedPlace}
-use Rattle.group_rules.specs.declared.said.ItemWriter.{ItemWriter}
 use Rattle.group_rules.specs.declared.said.Look.{Look}
 use Rattle.group_rules.specs.declared.said.Look.TheVariants.{Members, Slots, Config, Gtids as Set, Rows, Queue, Certifier, Kept}
 use Rattle.group_rules.specs.View.{View, Seat}

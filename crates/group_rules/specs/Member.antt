@@ -5,7 +5,7 @@ use Rattle.group_rules.specs.Names.{Inc, ValueId, Joiner, What, Says, Value, Bod
 use Rattle.group_rules.specs.Bytes.{body_bytes}
 use Rattle.node_rules.specs.declared.event.PaxosEvent.{PaxosEvent}
 use Rattle.node_rules.specs.declared.event.PaxosEvent.TheVariants.{Own}
-use Rattle.node_rules.specs.Node.{Node, Effect}
+use Rattle.node_rules.specs.Node.{Node, Effect, message}
 use Rattle.node_rules.specs.Step.{node_step}
 use Rattle.group_rules.specs.Events.{Did, Made, Is, Answered, Ends, Life, Setup, Cert}
 use Rattle.group_rules.specs.Life.{last_made}
@@ -34,7 +34,7 @@ abbrev pub at_node : PaxosEvent → Member → Member
 at_node e a = by_node (node_step e) a
 
 abbrev pub send : Inc → Wire → Member → Member
-send i x a = record a { sent = a.sent ++ record { from = a.me.inc; to = i; wire = x } ∷ [] }
+send i x a = record a { sent = a.sent ++ message a.node i x ∷ [] }
 
 -- ---- own values
 

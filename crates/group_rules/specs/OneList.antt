@@ -1,7 +1,7 @@
 -- The one ordered list: what the values of the slots come to, by a scan of the whole list.
 -- It is said as the history of a founder that did nothing but take the slots, so all that is said of a member's entries is said of it too: the view, the
 -- certified transactions, told sets, open parts, who has prepared. Its verdicts alone are those of the scan.
-use Rattle.std.specs.Prelude.{ℕ, suc, ◌+◌, ◌*◌, ◌%◌, Bool, true, false, ◌&&◌, not, Option, Some, None, List, [], ◌∷◌, length, nat_le, ◌==◌, filter}
+use Rattle.std.specs.Prelude.{ℕ, suc, Bool, true, false, ◌&&◌, not, Option, Some, None, List, [], ◌∷◌, length, nat_le, ◌==◌, filter}
 use Rattle.std.specs.List.{list_any, find}
 use Rattle.gr_ids.specs.Names.{inc_eq}
 use Rattle.gtid_sets.specs.Sets.{has}

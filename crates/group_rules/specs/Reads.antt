@@ -1,5 +1,5 @@
 -- The body that bytes spell: they are read loosely, and count where the bytes of what was read are these very bytes.
-use Rattle.std.specs.Prelude.{ℕ, zero, suc, ◌+◌, ◌-◌, ◌*◌, Bool, true, false, ◌&&◌, Option, Some, None, List, [], ◌∷◌, ◌++◌, take, drop, length, nat_lt, nat_le, ◌==◌, fold}
+use Rattle.std.specs.Prelude.{ℕ, zero, suc, ◌+◌, ◌*◌, Bool, true, false, ◌&&◌, Option, Some, None, List, [], ◌∷◌, ◌++◌, take, drop, length, nat_lt, nat_le, ◌==◌, fold}
 use Rattle.gr_ids.specs.Names.{bytes_eq}
 use Rattle.gtid_sets.specs.Sets.{Gtids}
 use Rattle.key_items.specs.Items.{ascend}

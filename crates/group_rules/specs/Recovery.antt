@@ -1,10 +1,10 @@
 -- Recovery: the ask for a donor and its failures, and the Give.
 -- (MySQL 8.0 Reference Manual, Group Replication: Distributed Recovery, Connection Attempts for Distributed Recovery.)
 use Rattle.std.specs.Prelude.{ℕ, suc, ◌*◌, Bool, true, false, ◌&&◌, not, Option, Some, None, List, [], ◌∷◌, length, map, nat_lt, nat_le, ◌==◌, filter, is_some}
-use Rattle.std.specs.List.{list_any, list_all}
+use Rattle.std.specs.List.{list_all}
 use Rattle.gr_ids.specs.Names.{inc_eq, is_inc}
 use Rattle.gtid_sets.specs.Sets.{Gtids, has, with_gtid, minus}
-use Rattle.group_rules.specs.Names.{Inc, LastNumber, OpenParts, What, Add, Remove, Txn, Body, Writes, Effect, Plain, Wire, Asks, Gives, Welcome, Give, Given, Asked, Failed, NoAskDue, NoAskPending, Extra, NoDonor}
+use Rattle.group_rules.specs.Names.{Inc, LastNumber, OpenParts, What, Add, Txn, Body, Writes, Effect, Plain, Wire, Asks, Gives, Welcome, Give, Given, Asked, Failed, NoAskDue, NoAskPending, Extra, NoDonor}
 use Rattle.group_rules.specs.Bytes.{body_bytes}
 use Rattle.group_rules.specs.Reads.{read_body}
 use Rattle.group_rules.specs.View.{View, seated, online_incs}

@@ -1,7 +1,7 @@
 -- What each step of a script does, and when it is refused. A step is one move of the world after another.
-use Rattle.std.specs.Prelude.{ℕ, zero, suc, ◌+◌, ◌^◌, Bool, true, false, ◌&&◌, ◌||◌, not, Option, Some, None, List, [], ◌∷◌, ◌++◌, ◌==◌, nat_lt, length, map, drop, is_some}
+use Rattle.std.specs.Prelude.{ℕ, zero, suc, ◌+◌, ◌^◌, Bool, true, false, ◌&&◌, ◌||◌, Option, Some, None, List, [], ◌∷◌, ◌++◌, ◌==◌, nat_lt, length, map, drop}
 use Rattle.std.specs.List.{list_any, list_all}
-use Rattle.group_rules.specs.Names.{Inc, Item, Change, ChangeKind, Inserts, Updates, Deletes, Joiner, Limits, Mode, Eventual, Message, Mark, Request, Begin, Insert, Update, Delete, Commit, Rollback, Finish}
+use Rattle.group_rules.specs.Names.{Inc, Item, Change, ChangeKind, Inserts, Updates, Deletes, Joiner, Mode, Eventual, Message, Mark, Request, Begin, Insert, Update, Delete, Commit, Rollback, Finish}
 use Rattle.group_rules.specs.Names.{Writes as HasTxn}
 use Rattle.group_rules.specs.Bytes.{wire_kind, body_bytes, message_bytes}
 use Rattle.group_rules.specs.declared.said.Said.{Said}
@@ -16,7 +16,7 @@ use Rattle.group_rules.specs.Queue.{queue, waiting, at_place}
 use Rattle.group_rules.specs.Sessions.{Phase, Free, phase, is_active}
 use Rattle.group_rules.specs.Member.{Member}
 use Rattle.group_rules.specs.Looks.{show_members, show_slots, show_config, show_gtids, show_rows, show_queue, show_certifier, show_kept}
-use Rattle.group_rules.specs.World.{World, new_world, Server, Happening, Does, Writes, Past, server_at, is_declared, member_at, is_running, runs, joiner_of, default_uuid, is_taken, is_group_taken, declare, Move, Declares, Founds, Starts, Stops, WritesRow, Takes, Happens, move}
+use Rattle.group_rules.specs.World.{World, new_world, Server, Does, Writes, Past, server_at, is_declared, member_at, is_running, runs, joiner_of, default_uuid, is_taken, is_group_taken, Move, Declares, Founds, Starts, Stops, WritesRow, Takes, Happens, move}
 
 -- ---- a play: the world, the wire, and what the present step says
 

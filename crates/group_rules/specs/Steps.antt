@@ -1,9 +1,9 @@
 -- A member's whole step: its action, then a point, then the decided slots with a point after each, and last the mark Held.
-use Rattle.std.specs.Prelude.{ℕ, ◌+◌, ◌-◌, ◌%◌, Bool, true, false, ◌&&◌, ◌||◌, not, Option, Some, None, List, [], ◌∷◌, nat_le, ◌==◌, length, map, take, reverse}
+use Rattle.std.specs.Prelude.{ℕ, ◌-◌, ◌%◌, Bool, true, false, ◌&&◌, ◌||◌, not, Option, Some, None, List, [], ◌∷◌, nat_le, ◌==◌, length, map, take, reverse}
 use Rattle.std.specs.List.{list_any}
 use Rattle.gr_ids.specs.Names.{inc_eq, has_inc, bytes_eq}
 use Rattle.slot_values.specs.Log.{Group}
-use Rattle.group_rules.specs.Names.{Inc, Joiner, Online, Offline, What, Add, Remove, Says, Value, ToMulti, ToSingle, Body, Executed, Switches, Appoints, Message, Wire, Prepare, Accept, Offer, Greet, Asks, Gives, Gone, Campaign, Tell, Leave, SetPrimary, SetSingle, SetMulti, AskDonor, DonorFailed, Finish, Operator, Held, HoldTimeout, SentAs, AtBallot, Finished, IsNotOnline, NotQueued, AlreadyDone, Founded, Started, WasGone, NoMajority}
+use Rattle.group_rules.specs.Names.{Inc, Joiner, Online, Offline, What, Add, Remove, Value, ToMulti, ToSingle, Executed, Switches, Appoints, Message, Wire, Prepare, Accept, Offer, Greet, Asks, Gives, Gone, Campaign, Tell, Leave, SetPrimary, SetSingle, SetMulti, AskDonor, DonorFailed, Finish, Operator, Held, HoldTimeout, SentAs, AtBallot, Finished, IsNotOnline, NotQueued, AlreadyDone, Founded, Started, WasGone, NoMajority}
 use Rattle.group_rules.specs.View.{seated, online_incs}
 use Rattle.node_rules.specs.declared.event.PaxosEvent.TheVariants.{Heard, Campaign as Campaigns, Tick}
 use Rattle.node_rules.specs.Node.{founder, joiner}
@@ -31,17 +31,14 @@ hear_add w a = a
 abbrev pub hear_offer : Value → Member → Member
 hear_offer v a = elim (v.id.number == 0) [ true ↦ hear_add v.what a | false ↦ a ]
 
--- what a message does beside its row at the node
-abbrev pub hear_wire : Inc → Wire → Member → Member
-hear_wire i Gone a = fall WasGone a
-hear_wire i (Greet w) a = hear_welcome w a
-hear_wire i (Offer v) a = hear_offer v a
-hear_wire i (Asks x) a = hear_ask i x.place x.executed a
-hear_wire i (Gives g) a = hear_give i g a
-hear_wire i x a = check_ask a
-
-abbrev pub hear : Message → Member → Member
-hear m a = hear_wire m.from m.wire (at_node (Heard m) a)
+-- An Ask and a Give are the member's; every other message is heard by its node first.
+abbrev pub hear_wire : Message → Wire → Member → Member
+hear_wire m (Asks x) a = hear_ask m.from x.place x.executed a
+hear_wire m (Gives g) a = hear_give m.from g a
+hear_wire m Gone a = fall WasGone (at_node (Heard m) a)
+hear_wire m (Greet w) a = hear_welcome w (at_node (Heard m) a)
+hear_wire m (Offer v) a = hear_offer v (at_node (Heard m) a)
+hear_wire m x a = check_ask (at_node (Heard m) a)
 
 -- ---- a worker's result
 
@@ -132,7 +129,7 @@ operate Finish a = push (Replied Finished) a
 -- ---- the action of a step
 
 abbrev pub act_alive : Event → Member → Member
-act_alive (Hears m) a = hear m a
+act_alive (Hears m) a = hear_wire m m.wire a
 act_alive Ticks a = tick_once a
 act_alive (Works p b) a = work p b a
 act_alive (Calls s r) a = call s r a

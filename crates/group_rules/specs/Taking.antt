@@ -1,10 +1,10 @@
 -- The decided slots are taken one by one; after them a leader proposes.
-use Rattle.std.specs.Prelude.{ℕ, zero, suc, ◌^◌, Bool, true, false, ◌&&◌, ◌||◌, not, Option, Some, None, List, [], ◌∷◌}
+use Rattle.std.specs.Prelude.{ℕ, zero, suc, ◌^◌, Bool, true, false, ◌&&◌, ◌||◌, Option, Some, None, List, [], ◌∷◌}
 use Rattle.gr_ids.specs.Names.{inc_eq, id_eq}
 use Rattle.slot_values.specs.declared.kept.Kept.{Kept}
 use Rattle.slot_values.specs.declared.kept.Kept.TheVariants.{At as KeptAt, Skipped as IsSkipped}
-use Rattle.group_rules.specs.Names.{Inc, ValueId, Gtid, OpenParts, Online, What, Add, Remove, Value, Txn, Body, Writes, Arrives, PartOf, Effect, Plain, Conflict, OwnOnline, Removed, ConflictWith}
-use Rattle.group_rules.specs.View.{View, effect_in, void_if}
+use Rattle.group_rules.specs.Names.{Inc, ValueId, Gtid, OpenParts, Online, What, Add, Remove, Value, Body, Writes, Arrives, PartOf, Effect, Plain, Conflict, OwnOnline, Removed, ConflictWith}
+use Rattle.group_rules.specs.View.{effect_in, void_if}
 use Rattle.node_rules.specs.declared.event.PaxosEvent.TheVariants.{Propose}
 use Rattle.node_rules.specs.declared.taken.Taken.{Taken}
 use Rattle.node_rules.specs.Taking.{take}

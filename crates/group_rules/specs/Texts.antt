@@ -1,8 +1,8 @@
 -- The text of each thing that a step says.
-use Rattle.std.specs.Prelude.{ℕ, zero, suc, ◌+◌, ◌-◌, ◌/◌, ◌%◌, ◌^◌, Bool, true, false, Option, Some, None, List, [], ◌∷◌, ◌++◌, length, take, drop, flat_map, map, nat_lt, ◌==◌, if◌then◌else◌, codes, slice_get, unwrap_or}
+use Rattle.std.specs.Prelude.{ℕ, zero, suc, ◌+◌, ◌-◌, ◌/◌, ◌%◌, ◌^◌, Bool, true, false, Option, Some, None, List, [], ◌∷◌, ◌++◌, length, flat_map, map, nat_lt, ◌==◌, codes, slice_get, unwrap_or}
 use Rattle.gr_ids.specs.Uuids.{uuid_text}
 use Rattle.gtid_sets.specs.Sets.{Gtids}
-use Rattle.group_rules.specs.Names.{Inc, Ballot, ValueId, Gtid, Run, MemberState, Online, Recovering, Offline, Error, Mode, Single, Multi, Item, What, Noop, Add, Remove, Says, Part, ToMulti, ToSingle, Body, Writes, Prepared, Sync, Executed, Arrives, Switches, Appoints, PartOf, Effect, Void, Unread, Positive, Conflict, Cause, Removed, WasGone, NoMajority, Extra, NoDonor, Holder, BySession, ByPlace, Answer, BegunWith, Held, Got, IsChanged, Sent, CommittedEmpty, CommittedAs, RolledBack, Busy, NoTransaction, NotOnline, ReadOnly, RowLocked, DuplicateKey, NoRow, Killed, ConflictWith, HoldTimeout, MemberLeft, Undecided, NotAcknowledged, TooLarge, Reply, SentAs, AtBallot, Asked, Failed, Finished, IsNotOnline, NoAskDue, NoAskPending, NotQueued, AlreadyDone, Mark, TookMark, SkippedMark, DoneMark, CommittedMark, StateMark, GivenMark, AnsweredMark, RepliedMark}
+use Rattle.group_rules.specs.Names.{Inc, Ballot, ValueId, Gtid, Run, MemberState, Online, Recovering, Offline, Error, Mode, Single, Multi, Item, What, Noop, Add, Remove, Says, ToMulti, ToSingle, Body, Writes, Prepared, Sync, Executed, Arrives, Switches, Appoints, PartOf, Effect, Void, Positive, Conflict, Cause, Removed, WasGone, NoMajority, Extra, NoDonor, Holder, BySession, ByPlace, Answer, BegunWith, Held, Got, IsChanged, Sent, CommittedEmpty, CommittedAs, RolledBack, Busy, NoTransaction, NotOnline, ReadOnly, RowLocked, DuplicateKey, NoRow, Killed, ConflictWith, HoldTimeout, MemberLeft, Undecided, NotAcknowledged, TooLarge, Reply, SentAs, AtBallot, Asked, Failed, Finished, IsNotOnline, NoAskDue, NoAskPending, NotQueued, AlreadyDone, Mark, TookMark, SkippedMark, DoneMark, CommittedMark, StateMark, GivenMark, AnsweredMark, RepliedMark}
 use Rattle.group_rules.specs.Bytes.{Source, sources}
 use Rattle.group_rules.specs.Reads.{read_body}
 use Rattle.group_rules.specs.declared.said.Shown.{Shown}

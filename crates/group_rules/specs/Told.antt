@@ -1,6 +1,6 @@
 -- Told sets, and the stable set: what all ONLINE members have told to have executed.
 -- (MySQL 8.0 Reference Manual, Group Replication: the transactions committed at all members, for which certification data is no longer kept.)
-use Rattle.std.specs.Prelude.{Bool, true, false, Option, Some, None, List, [], ◌∷◌}
+use Rattle.std.specs.Prelude.{true, false, Option, Some, None, List, [], ◌∷◌}
 use Rattle.gr_ids.specs.Names.{inc_eq, inc_lt}
 use Rattle.gtid_sets.specs.Sets.{Gtids, meet}
 use Rattle.group_rules.specs.Names.{Inc, ToldSet, Body, Executed, Arrives}

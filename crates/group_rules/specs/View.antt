@@ -1,6 +1,6 @@
 -- The view: the members and their states, the mode and the primary, as the entries make them.
 -- (MySQL 8.0 Reference Manual: Group Replication, Group Membership; Single-Primary Mode, Primary Election Algorithm; Changing a Group's Mode.)
-use Rattle.std.specs.Prelude.{ℕ, ◌+◌, Bool, true, false, ◌&&◌, ◌||◌, not, Option, Some, None, List, [], ◌∷◌, nat_lt, ◌==◌, if◌then◌else◌, filter, map}
+use Rattle.std.specs.Prelude.{ℕ, ◌+◌, Bool, true, false, ◌&&◌, not, Option, Some, None, List, [], ◌∷◌, nat_lt, ◌==◌, if◌then◌else◌, filter, map}
 use Rattle.std.specs.List.{list_any}
 use Rattle.gr_ids.specs.Names.{inc_eq, inc_lt, is_inc, bytes_eq, bytes_lt}
 pub use Rattle.node_rules.specs.Welcoming.{Seat}

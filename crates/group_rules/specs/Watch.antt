@@ -1,7 +1,7 @@
 -- Silence: who hasn't been heard, who is suspected, whether the majority is lost.
 -- (MySQL 8.0 Reference Manual, Responses to Failure Detection and Network Partitioning: a member is suspected after 5 seconds, here ticks;
 -- `group_replication_member_expel_timeout`, `group_replication_unreachable_majority_timeout`.)
-use Rattle.std.specs.Prelude.{ℕ, suc, ◌+◌, ◌/◌, Bool, true, false, ◌&&◌, not, Option, Some, None, List, [], ◌∷◌, ◌++◌, length, nat_lt, nat_le, ◌==◌, filter, map}
+use Rattle.std.specs.Prelude.{ℕ, suc, ◌+◌, ◌/◌, Bool, true, false, ◌&&◌, not, List, [], ◌∷◌, ◌++◌, length, nat_lt, nat_le, ◌==◌, filter, map}
 use Rattle.gr_ids.specs.Names.{inc_eq}
 use Rattle.group_rules.specs.Names.{Inc, Joiner, What, Add, Remove, Effect, Plain, WelcomeMember}
 use Rattle.group_rules.specs.Events.{Founds, Came, Took, Enters, Life, Setup, Hears, Ticks}

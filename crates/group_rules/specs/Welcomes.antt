@@ -1,5 +1,5 @@
 -- The Welcome: each member that is ONLINE when it takes an Add with effect sends one to the joiner, which begins with the first that is in order.
-use Rattle.std.specs.Prelude.{Bool, true, false, ◌&&◌, not, Option, Some, None, List, [], ◌∷◌}
+use Rattle.std.specs.Prelude.{true, false, ◌&&◌, not, Option, Some, None}
 use Rattle.gr_ids.specs.Names.{inc_eq}
 use Rattle.slot_values.specs.Log.{Turns}
 use Rattle.node_rules.specs.Welcoming.{welcome_of, is_in_order, is_for}

@@ -50,9 +50,7 @@ pub enum Answer {
     /// The member took ERROR before all required members had prepared the transaction.
     NotAcknowledged(Gtid),
     /// The body has more than 16,777,216 bytes.
-    TooLarge {
-        bytes: u64,
-    },
+    TooLarge { bytes: u64 },
 }
 
 /// How a transaction whose commit was asked has ended.

@@ -7,3 +7,4 @@ pub mod RejoinRows
 pub mod TenthRows
 pub mod CertRows
 pub mod PartRows
+pub mod ElectionRows
