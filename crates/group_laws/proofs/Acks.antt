@@ -5,7 +5,7 @@ use Rattle.std.proofs.lemmas.Bool.{false≢true, or_left, and_parts, both_ways, 
 use Rattle.group_rules.specs.Events.{Setup}
 use Rattle.group_laws.specs.Lists.{Mem, IsPast}
 use Rattle.group_laws.specs.Names.{Inc, Gtid, gtid_eq, Level}
-use Rattle.group_laws.specs.Entries.{Body, Prepared, Value, Placed, Cert, values, certified}
+use Rattle.group_laws.specs.Entries.{Body, Prepared, Value, Placed, Cert, values, certified, as_made, unplaced}
 use Rattle.group_laws.specs.View.{Standing, Absent, Recovering, Active, Gone, standing, active, is_in, member}
 use Rattle.group_laws.specs.Verdict.{scan}
 use Rattle.group_laws.specs.Life.{Given, Made, Committed, Called, Acked, Life, marked, taken, executed, is_fall, finishes, online}
@@ -209,8 +209,8 @@ module _ (r : Setup) (k : List Value) (w : World) (run : IsRun r k w) where
           required (inr (inl hp)) =
               let mb = (inv_at r k w run a pa).made m hp.0 hp.1 in
               let lm = made_is r a mb.0 hp.0 (lawful_past r a w pa run.lawful) mb.1 in
-              let lb : LawfulBody r hp.0.origin (life mb.0 hp.0.origin) (Prepared d.gtid) = subst (λ (y : Body). LawfulBody r hp.0.origin (life mb.0 hp.0.origin) y) hp.3 lm.body in
-              let p3 : IsPast mb.0 a = IsPast-tail (Does hp.0.origin (Made hp.0)) mb.0 a mb.1 in
+              let lb : LawfulBody r hp.0.origin (life mb.0 hp.0.origin) (Prepared d.gtid) = subst (λ (y : Body). LawfulBody r hp.0.origin (life mb.0 hp.0.origin) y) (ap unplaced hp.3) lm.body in
+              let p3 : IsPast mb.0 a = IsPast-tail (Does hp.0.origin (Made (as_made hp.0))) mb.0 a mb.1 in
               let ip : IsPrepared r (life mb.0 m2) m2 lb.0 = subst (λ (y : Inc). IsPrepared r (life mb.0 y) y lb.0) hp.2 lb.2 in
               let cw = to_all r k w run mb.0 (IsPast-trans mb.0 a w p3 pa) m2 lb.0 ip.0 in
               let cd : lb.0 ≡ d = gtids_distinct r run.founding.block k lb.0 d cw.0 h.cert lb.1 in

@@ -4,7 +4,7 @@ use Rattle.std.proofs.lemmas.Bool.{false≢true, cases_eq, ne_eqb}
 use Rattle.group_rules.specs.Events.{Setup}
 use Rattle.group_laws.specs.Lists.{Mem, IsPast}
 use Rattle.group_laws.specs.Names.{Inc, Gtid, Item, Gtids, has, bytes_eq, item_eq, Change, Inserts, Joiner, Txn, Eventual, Multi}
-use Rattle.group_laws.specs.Entries.{Write, Online, Joins, Value, Positive, NoTxn, Cert}
+use Rattle.group_laws.specs.Entries.{Write, Online, Joins, Value, Positive, NoTxn, Cert, as_made}
 use Rattle.group_laws.specs.Life.{Started, Given, Made, Took, Committed, Called, Begun, Call, executed, Finished, Changed, Asked, Life}
 use Rattle.group_laws.specs.Lawful.{Holds, InSession, Waits, Lost}
 use Rattle.group_laws.specs.World.{Does, World, Lawful, Joint, IsRun}
@@ -57,7 +57,7 @@ run =
     Does two (Given (record { value = add; outcome = NoTxn } ∷ record { value = write; outcome = Positive 1 } ∷ [])) ∷
     Does one (Took (record { value = add; outcome = NoTxn })) ∷
     Does two (Started []) ∷
-    Does one (Made add) ∷
+    Does one (Made (as_made add)) ∷
     Does one (Committed gtid) ∷
     Does one (Took (record { value = write; outcome = Positive 1 })) ∷
     Does one (Made write) ∷

@@ -1,11 +1,11 @@
 -- What is made by the rules is fresh at its place.
-use Rattle.std.proofs.Common.{◌≡◌, ℕ, suc, ◌≤◌, ◌<◌, List, ◌∷◌, Some, true, not, sym, ◌∙◌, ap, subst, arith}
+use Rattle.std.proofs.Common.{◌≡◌, ℕ, suc, ◌≤◌, ◌<◌, List, ◌∷◌, Some, true, not, sym, ◌∙◌, ap, subst, arith, refl}
 use Rattle.std.specs.List.{list_any}
 use Rattle.std.proofs.lemmas.Bool.{and_parts}
 use Rattle.group_rules.specs.Events.{Setup}
 use Rattle.group_laws.specs.Lists.{Mem, IsPast, AllPasts}
 use Rattle.group_laws.specs.Names.{Inc, Gtid, Gtids, has, Txn}
-use Rattle.group_laws.specs.Entries.{Body, Write, Executed, Online, Joins, Leaves, Prepared, Switches, Appoints, Plain, Value, Placed, Cert, values, certified}
+use Rattle.group_laws.specs.Entries.{Body, Write, Executed, Online, Joins, Leaves, Prepared, Switches, Appoints, Plain, Value, Placed, Cert, values, certified, as_made, unplaced}
 use Rattle.group_laws.specs.View.{active, member, before_online, set_told, last_kept}
 use Rattle.group_laws.specs.Verdict.{scan}
 use Rattle.group_laws.specs.Fresh.{Tells, Meet, FreshTxn, FreshBody, Fresh}
@@ -49,10 +49,21 @@ told_now r m l (Switches t) s k h = absurd (cc h)
 told_now r m l (Appoints t) s k h = absurd (cc h)
 told_now r m l Plain s k h = absurd (cc h)
 
+pub told_made : (b : Body) → set_told (unplaced b) ≡ set_told b
+told_made (Write t) = refl
+told_made (Executed s) = refl
+told_made (Online s) = refl
+told_made (Joins j) = refl
+told_made (Leaves j) = refl
+told_made (Prepared g) = refl
+told_made (Switches x) = refl
+told_made (Appoints x) = refl
+told_made Plain = refl
+
 -- ---- an own value at its place
 module _ (r : Setup) (k : List Value) (kept : IsKeptList r k) (w : World) (l : Lawful r w) (inv : AllPasts (Inv r k) w) (p : List Value) (v : Value) (pk : IsPast (v ∷ p) k) (w1 : World) (mk : MadeAt w v w1) (pm : (x : Value) → Mem x p → MadeBy w x) where
   inv_at : (w0 : World) → IsPast w0 w1 → Inv r k w0
-  inv_at w0 h = AllPasts-at (Inv r k) w0 w inv (IsPast-trans w0 w1 w h (IsPast-tail (Does v.origin (Made v)) w1 w mk))
+  inv_at w0 h = AllPasts-at (Inv r k) w0 w inv (IsPast-trans w0 w1 w h (IsPast-tail (Does v.origin (Made (as_made v))) w1 w mk))
 
   -- what an incarnation had taken when the value was made, or before, stands before the value's place
   pub taken_before : (w0 : World) → IsPast w0 w1 → (m : Inc) → IsPast (taken (life w0 m)) p
@@ -79,7 +90,7 @@ module _ (r : Setup) (k : List Value) (kept : IsKeptList r k) (w : World) (l : L
       c = ss.call
 
       lw1 : Lawful r w1
-      lw1 = (lawful_past r (Does v.origin (Made v) ∷ w1) w mk l).1
+      lw1 = (lawful_past r (Does v.origin (Made (as_made v)) ∷ w1) w mk l).1
 
       ll1 : LawfulLife r o l1
       ll1 = lawful_life r w1 o lw1
@@ -129,10 +140,10 @@ module _ (r : Setup) (k : List Value) (kept : IsKeptList r k) (w : World) (l : L
           let n3 : v.number ≡ suc (last_kept p v.origin) = kp.0.0 in
           let mb = made_before r w w1 u v l mk (pm u i2) ts.0 (omega (arith, n1, n2, n3)) in
           let lu = made_is r w1 mb.0 u lw1 mb.1 in
-          let un : IsNow (life mb.0 u.origin) s = told_now r u.origin (life mb.0 u.origin) u.body s lu.body ts.1 in
+          let un : IsNow (life mb.0 u.origin) s = told_now r u.origin (life mb.0 u.origin) (unplaced u.body) s lu.body (told_made u.body ∙ ts.1) in
           let e2 : executed (life mb.0 u.origin) g ≡ true = sym (un g) ∙ e in
           let e3 : executed (life mb.0 o) g ≡ true = subst (λ (y : Inc). executed (life mb.0 y) g ≡ true) ts.0 e2 in
-          let pu : IsPast (life mb.0 o) l1 = life_past mb.0 w1 o (IsPast-tail (Does u.origin (Made u)) mb.0 w1 mb.1) in
+          let pu : IsPast (life mb.0 o) l1 = life_past mb.0 w1 o (IsPast-tail (Does u.origin (Made (as_made u))) mb.0 w1 mb.1) in
           has_from g (executed_mono r o (life mb.0 o) l1 g ll1 pu e3)
 
       before : (d : Cert) → Mem d (certified r (scan r p)) → d.place ≤ before_online r (values (scan r p)) o → has t.snapshot d.gtid ≡ true
@@ -163,7 +174,7 @@ module _ (r : Setup) (k : List Value) (kept : IsKeptList r k) (w : World) (l : L
           let m2 : Mem x.0 (certified r (scan r (taken l1))) = subst (λ (y : List Placed). Mem x.0 (certified r y)) (i1.same o) x.1 in
           (x.0, certified_mono r (taken l1) p x.0 (taken_before w1 (IsPast-self w1) o) m2, x.2)
 
-  fresh_any : (b : Body) → LawfulBody r v.origin (life w1 v.origin) b → FreshBody r (scan r p) v.origin b
+  fresh_any : (b : Body) → LawfulBody r v.origin (life w1 v.origin) (unplaced b) → FreshBody r (scan r p) v.origin b
   fresh_any (Write t) lb = fresh_write t lb
   fresh_any (Executed s) lb = tt
   fresh_any (Online s) lb = tt

@@ -5,7 +5,7 @@ use Rattle.std.proofs.lemmas.Bool.{false≢true, or_cases, or_right, both_ways}
 use Rattle.group_rules.specs.Events.{Setup}
 use Rattle.group_laws.specs.Lists.{Mem, IsPast, AllPasts}
 use Rattle.group_laws.specs.Names.{Inc, inc_eq, bytes_eq, Gtid, gtid_eq, Gtids, has, Item, item_eq}
-use Rattle.group_laws.specs.Entries.{Body, Write, Value, Placed, Cert, values, cert_of, certified}
+use Rattle.group_laws.specs.Entries.{Body, Write, Value, Placed, Cert, values, cert_of, certified, as_made, unplaced}
 use Rattle.group_laws.specs.Verdict.{writes, shares, scan_outcome, kept_outcome, scan}
 use Rattle.group_laws.specs.Fresh.{Fresh}
 use Rattle.group_laws.specs.Life.{Did, Started, Given, Made, Took, Committed, Life, marked, taken, executed, is_give, founder, ready}
@@ -77,11 +77,11 @@ commit_closed r k w m g l inv lc c i lt cm = go lc.order
         let cv = cert_value r p lc.cert c0-in in
         let mb = inv.made m cv.value cv.there in
         let lm = made_is r w mb.0 cv.value l mb.1 in
-        let lb : LawfulBody r cv.value.origin (life mb.0 cv.value.origin) (Write lc.cert.txn) = subst (λ (y : Body). LawfulBody r cv.value.origin (life mb.0 cv.value.origin) y) cv.body lm.body in
+        let lb : LawfulBody r cv.value.origin (life mb.0 cv.value.origin) (Write lc.cert.txn) = subst (λ (y : Body). LawfulBody r cv.value.origin (life mb.0 cv.value.origin) y) (ap unplaced cv.body) lm.body in
         let e1 : executed (life mb.0 cv.value.origin) c.gtid ≡ true = sym (lb.0 c.gtid) ∙ h in
         let vo : cv.value.origin ≡ m = cv.origin ∙ o in
         let e2 : executed (life mb.0 m) c.gtid ≡ true = subst (λ (y : Inc). executed (life mb.0 y) c.gtid ≡ true) vo e1 in
-        let pm = life_past mb.0 w m (IsPast-tail (Does cv.value.origin (Made cv.value)) mb.0 w mb.1) in
+        let pm = life_past mb.0 w m (IsPast-tail (Does cv.value.origin (Made (as_made cv.value))) mb.0 w mb.1) in
         executed_mono r m (life mb.0 m) (life w m) c.gtid (lawful_life r w m l) pm e2
 
 -- ---- lists that are taken

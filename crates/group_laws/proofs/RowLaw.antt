@@ -6,7 +6,7 @@ use Rattle.group_rules.specs.Events.{Setup}
 use Rattle.group_rules.specs.Rows.{fits, row_after}
 use Rattle.group_laws.specs.Lists.{Mem, IsPast, AllPasts}
 use Rattle.group_laws.specs.Names.{Inc, inc_eq, bytes_eq, Gtid, gtid_eq, Item, item_eq, Txn, Change}
-use Rattle.group_laws.specs.Entries.{Body, Write, Value, Placed, Cert, certified, cert_of, cons_some, values, Outcome, Positive, Conflict, NoTxn, Executed, Online, Joins, Leaves, Prepared, Switches, Appoints, Plain, cert_parts}
+use Rattle.group_laws.specs.Entries.{Body, Write, Value, Placed, Cert, certified, cert_of, cons_some, values, Outcome, Positive, Conflict, NoTxn, Executed, Online, Joins, Leaves, Prepared, Switches, Appoints, Plain, cert_parts, as_made, unplaced}
 use Rattle.group_laws.specs.Verdict.{writes, scan}
 use Rattle.group_laws.specs.View.{last_kept}
 use Rattle.group_laws.specs.Table.{Rows, put, applied, Fits, rows_of, NoneRefused, Covers}
@@ -166,7 +166,7 @@ module _ (r : Setup) (k : List Value) (f : Founding r) where
       let cv = cert_value r (taken (life w n.who)) c x in
       let mb = inv.made n.who cv.value cv.there in
       let lm = made_is r w mb.0 cv.value l mb.1 in
-      let lb : LawfulBody r cv.value.origin (life mb.0 cv.value.origin) (Write c.txn) = subst (λ (y : Body). LawfulBody r cv.value.origin (life mb.0 cv.value.origin) y) cv.body lm.body in
+      let lb : LawfulBody r cv.value.origin (life mb.0 cv.value.origin) (Write c.txn) = subst (λ (y : Body). LawfulBody r cv.value.origin (life mb.0 cv.value.origin) y) (ap unplaced cv.body) lm.body in
       lb.1.1.covers
 
   covers_owned : (w : World) → Lawful r w → Joint r k w → Inv r k w → (s : ℕ) (c : Cert) → Mem c (certified r (scan r k)) → owned w s c.gtid ≡ true → Covers c.txn
@@ -660,8 +660,8 @@ module _ (r : Setup) (k : List Value) (w : World) (run : IsRun r k w) (m : Inc) 
           before : Life
           before = life mb.0 m
 
-          made-l : IsPast (Made cv.value ∷ life mb.0 m) (life a m)
-          made-l = subst (λ (y : Inc). IsPast (Made cv.value ∷ life mb.0 y) (life a y)) own (made_life a mb.0 cv.value mb.1)
+          made-l : IsPast (Made (as_made cv.value) ∷ life mb.0 m) (life a m)
+          made-l = subst (λ (y : Inc). IsPast (Made (as_made cv.value) ∷ life mb.0 y) (life a y)) own (made_life a mb.0 cv.value mb.1)
 
           key : Mem ch.item lc.cert.txn.items
           key =
@@ -669,7 +669,7 @@ module _ (r : Setup) (k : List Value) (w : World) (run : IsRun r k w) (m : Inc) 
               subst (λ (y : Item). Mem y lc.cert.txn.items) (sym (item_eq_same ch.item x.0 x.2)) x.1
 
           lost : Lost r (life a m) (life mb.0 m) ch.item
-          lost = z.asked s cs o ch i cv.value lc.cert.txn (life mb.0 m) made-l cv.body key (inr (lc.cert, lc.here, sym cv.number, q, not-yet))
+          lost = z.asked s cs o ch i (as_made cv.value) lc.cert.txn (life mb.0 m) made-l (ap unplaced cv.body) key (inr (lc.cert, lc.here, sym cv.number, q, not-yet))
 
           d : Cert
           d = lost.0
@@ -683,7 +683,7 @@ module _ (r : Setup) (k : List Value) (w : World) (run : IsRun r k w) (m : Inc) 
           snap : IsNow (life mb.0 m) c.txn.snapshot
           snap =
               let lm = made_is r a mb.0 cv.value la mb.1 in
-              let lb : LawfulBody r cv.value.origin (life mb.0 cv.value.origin) (Write lc.cert.txn) = subst (λ (y : Body). LawfulBody r cv.value.origin (life mb.0 cv.value.origin) y) cv.body lm.body in
+              let lb : LawfulBody r cv.value.origin (life mb.0 cv.value.origin) (Write lc.cert.txn) = subst (λ (y : Body). LawfulBody r cv.value.origin (life mb.0 cv.value.origin) y) (ap unplaced cv.body) lm.body in
               subst (λ (y : Inc). IsNow (life mb.0 y) lc.cert.txn.snapshot) own lb.0
 
           ends : (d.place ≡ c.place) ⊎ ((d.place < c.place) ⊎ (c.place < d.place)) → ⊥
@@ -696,7 +696,7 @@ module _ (r : Setup) (k : List Value) (w : World) (run : IsRun r k w) (m : Inc) 
           ends (inr (inr x)) = by_order lc2.order
             where
               cb : (b : Life) × IsPast (Committed d.gtid ∷ b) (life a m)
-              cb = committed_between r m d.gtid cv.value (life mb.0 m) (life a m) ll made-l lost.4 d-now
+              cb = committed_between r m d.gtid (as_made cv.value) (life mb.0 m) (life a m) ll made-l lost.4 d-now
 
               wi : Within a m (Committed d.gtid) cb.0
               wi = within_run a m (Committed d.gtid) cb.0 cb.1
@@ -1059,7 +1059,7 @@ module _ (r : Setup) (k : List Value) (w : World) (run : IsRun r k w) (s : ℕ) 
       w2 = mb.0
 
       p2w : IsPast w2 w
-      p2w = IsPast-tail (Does v.origin (Made v)) w2 w mb.1
+      p2w = IsPast-tail (Does v.origin (Made (as_made v))) w2 w mb.1
 
       i : Inc
       i = v.origin
@@ -1077,7 +1077,7 @@ module _ (r : Setup) (k : List Value) (w : World) (run : IsRun r k w) (s : ℕ) 
       inv2 = AllPasts-at (Inv r k) w2 w (invs r k w run) p2w
 
       lb : LawfulBody r i l2 (Write c.txn)
-      lb = subst (λ (y : Body). LawfulBody r i l2 y) (head_is r v p c hc).body (made_is r w w2 v run.lawful mb.1).body
+      lb = subst (λ (y : Body). LawfulBody r i l2 y) (ap unplaced (head_is r v p c hc).body) (made_is r w w2 v run.lawful mb.1).body
 
       t2p : IsPast (taken l2) p
       t2p = taken_before r k run.kept w run.lawful (invs r k w run) p v pk w2 mb.1 pm w2 (IsPast-self w2) i

@@ -4,7 +4,7 @@ use Rattle.std.proofs.lemmas.Bool.{false≢true, or_cases, or_left, or_right}
 use Rattle.group_rules.specs.Events.{Setup}
 use Rattle.group_laws.specs.Lists.{Mem, IsPast}
 use Rattle.group_laws.specs.Names.{Inc, inc_eq, Gtid, gtid_eq}
-use Rattle.group_laws.specs.Entries.{Value}
+use Rattle.group_laws.specs.Entries.{Value, as_made}
 use Rattle.group_laws.specs.Life.{Did, Started, Given, Made, Took, Finished, Committed, Called, Begun, Acked, Fell, Life, executed, last_made, Changed, Asked, Ended}
 use Rattle.group_laws.specs.Lawful.{LawfulMade, LawfulDid, LawfulLife}
 use Rattle.group_laws.specs.View.{last_kept}
@@ -119,33 +119,33 @@ executed_owned r k (Writes s c y x ∷ w) m g j h = or_right (eqb s m.server && 
 
 -- ---- own values
 
-pub made_life : (w a : World) (v : Value) → MadeAt w v a → IsPast (Made v ∷ life a v.origin) (life w v.origin)
+pub made_life : (w a : World) (v : Value) → MadeAt w v a → IsPast (Made (as_made v) ∷ life a v.origin) (life w v.origin)
 made_life w a v h =
-    let x = life_past (Does v.origin (Made v) ∷ a) w v.origin h in
-    subst (λ (y : Life). IsPast y (life w v.origin)) (life_here a v.origin (Made v)) x
+    let x = life_past (Does v.origin (Made (as_made v)) ∷ a) w v.origin h in
+    subst (λ (y : Life). IsPast y (life w v.origin)) (life_here a v.origin (Made (as_made v))) x
 
-pub made_is : (r : Setup) (w a : World) (v : Value) → Lawful r w → MadeAt w v a → LawfulMade r v.origin (life a v.origin) v
-made_is r w a v l h = (lawful_past r (Does v.origin (Made v) ∷ a) w h l).0
+pub made_is : (r : Setup) (w a : World) (v : Value) → Lawful r w → MadeAt w v a → LawfulMade r v.origin (life a v.origin) (as_made v)
+made_is r w a v l h = (lawful_past r (Does v.origin (Made (as_made v)) ∷ a) w h l).0
 
 pub made_number : (r : Setup) (w a : World) (v : Value) → Lawful r w → MadeAt w v a → v.number ≤ last_made (life w v.origin)
-made_number r w a v l h = last_made_mono r v.origin (Made v ∷ life a v.origin) (life w v.origin) (lawful_life r w v.origin l) (made_life w a v h)
+made_number r w a v l h = last_made_mono r v.origin (Made (as_made v) ∷ life a v.origin) (life w v.origin) (lawful_life r w v.origin l) (made_life w a v h)
 
 -- an own value was not made before it was made
 pub not_made_before : (r : Setup) (w a : World) (v : Value) → Lawful r w → MadeAt w v a → (b : World) → IsPast b a → MadeBy b v → ⊥
 not_made_before r w a v l h b p m =
-    let la : Lawful r a = (lawful_past r (Does v.origin (Made v) ∷ a) w h l).1 in
+    let la : Lawful r a = (lawful_past r (Does v.origin (Made (as_made v)) ∷ a) w h l).1 in
     let n = (made_is r w a v l h).next in
     let x = made_number r b m.0 v (lawful_past r b a p la) m.1 in
     let y = last_made_mono r v.origin (life b v.origin) (life a v.origin) (lawful_life r a v.origin la) (life_past b a v.origin p) in
     omega (arith, n, x, y)
 
-pub making_is : (v e : Value) → Does v.origin (Made v) ≡ Does e.origin (Made e) → v ≡ e
+pub making_is : (v e : Value) → Does v.origin (Made (as_made v)) ≡ Does e.origin (Made (as_made e)) → as_made v ≡ as_made e
 making_is v e p = cc p
 
 -- one of two own values of one origin was made within the past of the other only if its number is lesser
 pub inside_less : (r : Setup) (w a b : World) (u v : Value) → Lawful r w → MadeAt w v b → u.origin ≡ v.origin → MadeAt b u a → u.number < v.number
 inside_less r w a b u v l h o p =
-    let lb : Lawful r b = (lawful_past r (Does v.origin (Made v) ∷ b) w h l).1 in
+    let lb : Lawful r b = (lawful_past r (Does v.origin (Made (as_made v)) ∷ b) w h l).1 in
     let x = made_number r b a u lb p in
     let y = (made_is r w b v l h).next in
     let z : last_made (life b u.origin) ≡ last_made (life b v.origin) = ap (λ (i : Inc). last_made (life b i)) o in
@@ -153,27 +153,17 @@ inside_less r w a b u v l h o p =
 
 -- of two own values the one with the lesser number was made first
 pub made_before : (r : Setup) (w a : World) (v e : Value) → Lawful r w → MadeAt w e a → MadeBy w v → v.origin ≡ e.origin → v.number < e.number → MadeBy a v
-made_before r w a v e l h m o n = go (pasts_compare (Does v.origin (Made v) ∷ m.0) (Does e.origin (Made e) ∷ a) w m.1 h)
+made_before r w a v e l h m o n = go (pasts_compare (Does v.origin (Made (as_made v)) ∷ m.0) (Does e.origin (Made (as_made e)) ∷ a) w m.1 h)
   where
-    go : IsPast (Does v.origin (Made v) ∷ m.0) (Does e.origin (Made e) ∷ a) ⊎ IsPast (Does e.origin (Made e) ∷ a) (Does v.origin (Made v) ∷ m.0) → MadeBy a v
+    go : IsPast (Does v.origin (Made (as_made v)) ∷ m.0) (Does e.origin (Made (as_made e)) ∷ a) ⊎ IsPast (Does e.origin (Made (as_made e)) ∷ a) (Does v.origin (Made (as_made v)) ∷ m.0) → MadeBy a v
     go (inl (inr p)) = (m.0, p)
     go (inl (inl p)) =
-        let q : Does v.origin (Made v) ≡ Does e.origin (Made e) = cc p in
+        let q : Does v.origin (Made (as_made v)) ≡ Does e.origin (Made (as_made e)) = cc p in
         let s : v.number ≡ e.number = ap (λ (y : Value). y.number) (making_is v e q) in absurd (omega (arith, s, n))
     go (inr (inl p)) =
-        let q : Does e.origin (Made e) ≡ Does v.origin (Made v) = cc p in
+        let q : Does e.origin (Made (as_made e)) ≡ Does v.origin (Made (as_made v)) = cc p in
         let s : e.number ≡ v.number = ap (λ (y : Value). y.number) (making_is e v q) in absurd (omega (arith, s, n))
     go (inr (inr p)) = let s = inside_less r w a m.0 e v l m.1 (sym o) p in absurd (omega (arith, s, n))
-
--- own values of one number are one
-pub made_unique : (r : Setup) (w a b : World) (u v : Value) → Lawful r w → MadeAt w u a → MadeAt w v b → u.origin ≡ v.origin → u.number ≡ v.number → u ≡ v
-made_unique r w a b u v l h k o n = go (pasts_compare (Does u.origin (Made u) ∷ a) (Does v.origin (Made v) ∷ b) w h k)
-  where
-    go : IsPast (Does u.origin (Made u) ∷ a) (Does v.origin (Made v) ∷ b) ⊎ IsPast (Does v.origin (Made v) ∷ b) (Does u.origin (Made u) ∷ a) → u ≡ v
-    go (inl (inl p)) = let q : Does u.origin (Made u) ≡ Does v.origin (Made v) = cc p in making_is u v q
-    go (inr (inl p)) = let q : Does v.origin (Made v) ≡ Does u.origin (Made u) = cc p in sym (making_is v u q)
-    go (inl (inr p)) = let s = inside_less r w a b u v l k o p in absurd (omega (arith, s, n))
-    go (inr (inr p)) = let s = inside_less r w b a v u l h (sym o) p in absurd (omega (arith, s, n))
 
 -- ---- kept lists
 

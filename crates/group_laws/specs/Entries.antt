@@ -32,6 +32,15 @@ pub record Placed : Type 0 where
   pub value : Value
   pub outcome : Outcome
 
+-- what it is known to do where it is made, and stands at no place yet: an Add or a Remove nothing
+abbrev pub unplaced : Body → Body
+unplaced (Joins j) = Plain
+unplaced (Leaves i) = Plain
+unplaced b = b
+
+abbrev pub as_made : Value → Value
+as_made v = record v { body = unplaced v.body }
+
 abbrev pub value_of : Placed → Value
 value_of e = e.value
 

@@ -3,7 +3,7 @@ use Rattle.std.specs.Prelude.{◌≡◌, ℕ, suc, ◌<◌, ◌≤◌, Bool, tru
 use Rattle.group_rules.specs.Events.{Setup}
 use Rattle.group_laws.specs.Lists.{IsPast, newest}
 use Rattle.group_laws.specs.Names.{Inc, inc_eq, bytes_eq, Gtid, gtid_eq, has, Item}
-use Rattle.group_laws.specs.Entries.{Value, Cert, certified}
+use Rattle.group_laws.specs.Entries.{Value, Cert, certified, as_made}
 use Rattle.group_laws.specs.Table.{Rows, no_rows, put, applied}
 use Rattle.group_laws.specs.View.{member, last_kept}
 use Rattle.group_laws.specs.Life.{Did, Started, Given, Made, Took, Committed, Life, marked, taken, founder}
@@ -38,9 +38,9 @@ Lawful r [] = Unit {0}
 Lawful r (Does i d ∷ w) = LawfulDid r i (life w i) d × Lawful r w
 Lawful r (Writes s g i x ∷ w) = Lawful r w
 
--- its origin made it, and this had happened before
+-- its origin made it, and this had happened before; whether an Add or a Remove has effect is known at its place alone
 abbrev pub MadeAt : World → Value → World → Type 0
-MadeAt w v past = IsPast (Does v.origin (Made v) ∷ past) w
+MadeAt w v past = IsPast (Does v.origin (Made (as_made v)) ∷ past) w
 
 abbrev pub MadeBy : World → Value → Type 0
 MadeBy w v = (past : World) × MadeAt w v past
