@@ -6,3 +6,4 @@ pub mod PutLemmas
 pub mod PartLemmas
 pub mod UnionLemmas
 pub mod StepLemmas
+pub mod LawLemmas
