@@ -1,5 +1,5 @@
 -- Outcomes computed from the definitions, for lists whose outcomes are known.
-use Rattle.std.proofs.Common.{◌≡◌, ℕ, List, [], ◌∷◌, None, false, refl}
+use Rattle.std.proofs.Common.{◌≡◌, ℕ, List, [], ◌∷◌, false, refl}
 use Rattle.group_rules.specs.Events.{Setup}
 use Rattle.group_laws.specs.Names.{Inc, Gtid, Item, Run, Gtids, Joiner, Multi}
 use Rattle.group_laws.specs.Entries.{Write, Executed, Value, Outcome, Positive, Conflict, NoTxn, Placed}

@@ -13,6 +13,8 @@ pub mod Law
 pub mod Begins
 pub mod Acks
 pub mod Tables
+pub mod ServerRows
+pub mod Sessions
 pub mod RowLaw
 pub mod CodeForms
 pub mod Example

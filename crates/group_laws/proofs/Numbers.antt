@@ -5,7 +5,8 @@ use Rattle.std.proofs.lemmas.Nat.{div-add-mod', mod_below, div-mul-add, mod-mul-
 use Rattle.group_laws.specs.Lists.{Mem}
 use Rattle.group_laws.specs.Names.{Inc, inc_eq}
 use Rattle.group_laws.specs.Entries.{Cert}
-use Rattle.group_laws.specs.Verdict.{last_of, opens_block, blocks_taken, number_after}
+use Rattle.group_laws.specs.Verdict.{last_of, blocks_taken, number_in}
+use Rattle.group_rules.specs.Certifier.{number_after, opens_block}
 use Rattle.group_laws.proofs.Names.{inc_eq_same, inc_eq_itself}
 use Rattle.group_laws.proofs.Lists.{newest_mem}
 
@@ -15,7 +16,7 @@ num c = c.gtid.number
 -- each number is the one that the rule gives after the ones below it
 abbrev pub Numbered : ℕ → List Cert → Type 0
 Numbered b [] = Unit {0}
-Numbered b (c ∷ cs) = (num c ≡ number_after b (blocks_taken b cs) (last_of c.origin cs)) × Numbered b cs
+Numbered b (c ∷ cs) = (num c ≡ number_after b (blocks_taken b cs) (number_in (last_of c.origin cs))) × Numbered b cs
 
 pub mod_zero : (q b : ℕ) → 0 < b → (q * b) % b ≡ 0
 mod_zero q b h = ap (λ x. x % b) (omega arith) ∙ mod-mul-add q b 0 h
@@ -47,14 +48,14 @@ pub data NextIs (b : ℕ) (cs : List Cert) (o : Inc) (n : ℕ) : Type 0 where
   opens : n ≡ blocks_taken b cs * b + 1 → NextIs b cs o n
   goes_on : (l : Cert) → last_of o cs ≡ Some l → (num l % b ≡ 0 → ⊥) → n ≡ num l + 1 → NextIs b cs o n
 
-pub next_is : (b : ℕ) (cs : List Cert) (o : Inc) (n : ℕ) → n ≡ number_after b (blocks_taken b cs) (last_of o cs) → NextIs b cs o n
+pub next_is : (b : ℕ) (cs : List Cert) (o : Inc) (n : ℕ) → n ≡ number_after b (blocks_taken b cs) (number_in (last_of o cs)) → NextIs b cs o n
 next_is b cs o n h = go (last_of o cs) refl
   where
     go : (u : Option Cert) → last_of o cs ≡ u → NextIs b cs o n
-    go None e = opens (let h2 : n ≡ number_after b (blocks_taken b cs) None = rw e at h in h2)
+    go None e = opens (let h2 : n ≡ number_after b (blocks_taken b cs) (number_in None) = rw e at h in h2)
     go (Some l) e = at_test (eqb (num l % b) 0) refl
       where
-        h2 : n ≡ number_after b (blocks_taken b cs) (Some l)
+        h2 : n ≡ number_after b (blocks_taken b cs) (number_in (Some l))
         h2 = rw e at h
 
         at_test : (v : Bool) → eqb (num l % b) 0 ≡ v → NextIs b cs o n
@@ -80,20 +81,62 @@ next_new b cs o n h d (goes_on l e ne f) c i p =
     omega (arith, m, p, f)
 
 -- how many blocks are taken after one more
-pub opens_true : (b q : ℕ) (c : Cert) → 0 < b → num c ≡ q * b + 1 → opens_block b c ≡ true
-opens_true b q c h e =
-    let e2 : num c - 1 ≡ q * b = omega (arith, e) in
-    eq-eqb ((num c - 1) % b) 0 (ap (λ x. x % b) e2 ∙ mod_zero q b h)
+pub mul_more : (q b : ℕ) → suc q * b ≡ q * b + b
+mul_more q b = omega arith
 
-pub opens_false : (b : ℕ) (c l : Cert) → (num l % b ≡ 0 → ⊥) → num c ≡ num l + 1 → opens_block b c ≡ false
-opens_false b c l ne e =
-    let e2 : num c - 1 ≡ num l = omega (arith, e) in
-    ne_eqb ((num c - 1) % b) 0 (λ z. ne (ap (λ x. x % b) (sym e2) ∙ z))
+one_left : (b : ℕ) → 1 < b → 1 % b ≡ 1
+one_left b l = let e : 1 ≡ 0 * b + 1 = omega arith in ap (λ x. x % b) e ∙ mod-mul-add 0 b 1 l
 
-pub taken_opens : (b : ℕ) (c : Cert) (cs : List Cert) → opens_block b c ≡ true → blocks_taken b (c ∷ cs) ≡ suc (blocks_taken b cs)
+-- the first number of a block leaves what 1 leaves
+first_left : (b q : ℕ) → 0 < b → (q * b + 1) % b ≡ 1 % b
+first_left b q h = go (cases_eq b 1)
+  where
+    go : (b ≡ 1) ⊎ (b ≡ 1 → ⊥) → (q * b + 1) % b ≡ 1 % b
+    go (inl e) =
+        let x = mod_below (q * b + 1) b h in
+        let y = mod_below 1 b h in omega (arith, x, y, e)
+    go (inr ne) = mod-mul-add q b 1 (omega (arith, h, ne)) ∙ sym (one_left b (omega (arith, h, ne)))
+
+-- a number after one that doesn't end its block leaves something else
+later_left : (b n : ℕ) → 0 < b → (n % b ≡ 0 → ⊥) → (n + 1) % b ≡ 1 % b → ⊥
+later_left b n h ne e = go (cases_eq (n % b + 1) b)
+  where
+    whole : n / b * b + n % b ≡ n
+    whole = div-add-mod' n b
+
+    below : n % b < b
+    below = mod_below n b h
+
+    wide : 1 < b
+    wide = let k = below in omega (arith, k, ne)
+
+    one : 1 % b ≡ 1
+    one = one_left b wide
+
+    go : (n % b + 1 ≡ b) ⊎ (n % b + 1 ≡ b → ⊥) → ⊥
+    go (inl f) =
+        let w = whole in
+        let m = mul_more (n / b) b in
+        let e2 : n + 1 ≡ suc (n / b) * b + 0 = omega (arith, w, m, f) in
+        let z : (n + 1) % b ≡ 0 = ap (λ x. x % b) e2 ∙ mod-mul-add (suc (n / b)) b 0 h in
+        let o = one in omega (arith, z, o, e)
+    go (inr g) =
+        let w = whole in
+        let l = below in
+        let e2 : n + 1 ≡ n / b * b + (n % b + 1) = omega (arith, w) in
+        let z : (n + 1) % b ≡ n % b + 1 = ap (λ x. x % b) e2 ∙ mod-mul-add (n / b) b (n % b + 1) (omega (arith, l, g)) in
+        let o = one in omega (arith, z, o, e, ne)
+
+pub opens_true : (b q : ℕ) (c : Cert) → 0 < b → num c ≡ q * b + 1 → opens_block b (num c) ≡ true
+opens_true b q c h e = eq-eqb (num c % b) (1 % b) (ap (λ x. x % b) e ∙ first_left b q h)
+
+pub opens_false : (b : ℕ) → 0 < b → (c l : Cert) → (num l % b ≡ 0 → ⊥) → num c ≡ num l + 1 → opens_block b (num c) ≡ false
+opens_false b h c l ne e = ne_eqb (num c % b) (1 % b) (λ z. later_left b (num l) h ne (ap (λ x. x % b) (sym e) ∙ z))
+
+pub taken_opens : (b : ℕ) (c : Cert) (cs : List Cert) → opens_block b (num c) ≡ true → blocks_taken b (c ∷ cs) ≡ suc (blocks_taken b cs)
 taken_opens b c cs e = rw e refl
 
-pub taken_same : (b : ℕ) (c : Cert) (cs : List Cert) → opens_block b c ≡ false → blocks_taken b (c ∷ cs) ≡ blocks_taken b cs
+pub taken_same : (b : ℕ) (c : Cert) (cs : List Cert) → opens_block b (num c) ≡ false → blocks_taken b (c ∷ cs) ≡ blocks_taken b cs
 taken_same b c cs e = rw e refl
 
 pub last_here : (o : Inc) (c : Cert) (cs : List Cert) → c.origin ≡ o → last_of o (c ∷ cs) ≡ Some c
@@ -114,9 +157,6 @@ block_below b q n h p l = div_below (n - 1) b q h (omega arith)
 
 pub block_of_first : (b q n : ℕ) → 0 < b → n ≡ q * b + 1 → (n - 1) / b ≡ q
 block_of_first b q n h e = let e2 : n - 1 ≡ q * b + 0 = omega (arith, e) in ap (λ x. x / b) e2 ∙ div-mul-add q b 0 h
-
-pub mul_more : (q b : ℕ) → suc q * b ≡ q * b + b
-mul_more q b = omega arith
 
 -- a number that is not a whole count of blocks is below one that is
 pub not_whole : (b q n : ℕ) → 0 < b → n ≤ q * b → (n % b ≡ 0 → ⊥) → n + 1 ≤ q * b
@@ -178,7 +218,7 @@ module _ (b : ℕ) (h : 0 < b) (c : Cert) (cs : List Cert) (d : Drawn b cs) wher
       li = last_origin c.origin cs l lo
 
       same : blocks_taken b (c ∷ cs) ≡ blocks_taken b cs
-      same = taken_same b c cs (opens_false b c l ne e)
+      same = taken_same b c cs (opens_false b h c l ne e)
 
       low : (x : Cert) → Mem x (c ∷ cs) → 0 < num x
       low x (inl p) = let y : num c ≡ num x = ap num p in omega (arith, y, e)

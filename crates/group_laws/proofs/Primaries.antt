@@ -3,8 +3,8 @@ use Rattle.std.proofs.Common.{◌≡◌, ℕ, suc, ◌≤◌, List, [], ◌∷�
 use Rattle.group_rules.specs.Events.{Setup}
 use Rattle.gr_ids.specs.declared.levels.MemberState.TheVariants.{Online as IsUp}
 use Rattle.txn_forms.specs.declared.body.Body.{Body as Said}
-use Rattle.group_laws.specs.Names.{Inc, Joiner, ModeChange, ToMulti, ToSingle, Single}
-use Rattle.group_rules.specs.View.{View, is_single, has_primary, online_seats, joiners, elect, with_primary, settled, with_named, is_online, void_if, is_idle, changed_view, next_view, effect_in}
+use Rattle.group_laws.specs.Names.{Inc, Joiner, ToMulti, ToSingle, Single}
+use Rattle.group_rules.specs.View.{View, is_single, has_primary, online_seats, joiners, elect, with_primary, settled, with_named, is_online, void_if, is_idle, changed_view, effect_in}
 use Rattle.group_laws.specs.Entries.{Body, Write, Executed, Online, Joins, Leaves, Prepared, Switches, Appoints, Plain, Value}
 use Rattle.group_laws.specs.Primary.{view, view_after, what_of, said_of}
 

@@ -2,7 +2,7 @@
 use Rattle.std.specs.Prelude.{ℕ, Bool, true, false, cond, ◌&&◌, ◌||◌, not, List, [], ◌∷◌, Option, Some, None, ◌++◌, ◌==◌}
 use Rattle.std.specs.List.{list_any}
 use Rattle.group_rules.specs.Events.{Setup}
-use Rattle.group_laws.specs.Names.{Inc, inc_eq, Gtid, gtid_eq, Gtids, has, has_inc, Change, Level}
+use Rattle.group_laws.specs.Names.{Inc, Gtid, gtid_eq, Gtids, has, has_inc, Change, Level}
 use Rattle.group_laws.specs.Entries.{Value, Placed, values, Cert, certified}
 use Rattle.group_laws.specs.Lists.{newest}
 use Rattle.group_laws.specs.View.{founders, active}

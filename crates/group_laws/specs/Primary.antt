@@ -1,5 +1,5 @@
 -- The view that the entries make, by the rules of the view: the mode, the members, the primary and the place of its election.
-use Rattle.std.specs.Prelude.{ℕ, suc, Bool, true, Option, Some, None, List, [], ◌∷◌, length}
+use Rattle.std.specs.Prelude.{ℕ, suc, true, Option, Some, None, List, [], ◌∷◌, length}
 use Rattle.group_rules.specs.Events.{Setup}
 use Rattle.slot_values.specs.declared.value.What.{What}
 use Rattle.slot_values.specs.declared.value.What.TheVariants.{Add, Remove, Body as Says}

@@ -1,5 +1,5 @@
 -- The rows that certified transactions leave.
-use Rattle.std.specs.Prelude.{◌≡◌, ℕ, Bool, true, cond, List, [], ◌∷◌, Option, Some, None}
+use Rattle.std.specs.Prelude.{◌≡◌, ℕ, Bool, true, cond, List, [], ◌∷◌, Option, None}
 use Rattle.group_rules.specs.Rows.{row_after, fits}
 use Rattle.group_laws.specs.Lists.{Mem}
 use Rattle.group_laws.specs.Names.{Gtid, Item, item_eq, Change, Txn}

@@ -1,14 +1,16 @@
 -- The verdict by scan, and the verdict of the items that a member keeps.
 use Rattle.std.specs.Prelude.{ℕ, suc, ◌+◌, ◌-◌, ◌*◌, ◌%◌, Bool, cond, ◌&&◌, not, List, [], ◌∷◌, Option, Some, None, length, nat_lt, ◌==◌}
 use Rattle.std.specs.List.{list_any}
+use Rattle.key_items.specs.Items.{has_item}
 use Rattle.group_rules.specs.Events.{Setup}
+use Rattle.group_rules.specs.Certifier.{number_after, opens_block}
 use Rattle.group_laws.specs.Lists.{newest, count_of}
 use Rattle.group_laws.specs.Names.{Inc, inc_eq, Item, item_eq, has, Txn}
 use Rattle.group_laws.specs.Entries.{Body, Write, Value, Outcome, Positive, Conflict, NoTxn, Placed, Cert, values, cert_of, certified}
 use Rattle.group_laws.specs.View.{stable}
 
 abbrev pub writes : Cert → Item → Bool
-writes c i = list_any (item_eq i) c.txn.items
+writes c i = has_item c.txn.items i
 
 -- the two share an item
 abbrev pub shares : Txn → Cert → Bool
@@ -26,19 +28,15 @@ blocks t c = shares t c && outside t c
 abbrev pub last_of : Inc → List Cert → Option Cert
 last_of m cs = newest (λ c. inc_eq c.origin m) cs
 
--- the number is the first of a block
-abbrev pub opens_block : ℕ → Cert → Bool
-opens_block b c = (((c.gtid.number - 1) % b) == 0)
-
 abbrev pub blocks_taken : ℕ → List Cert → ℕ
-blocks_taken b cs = count_of (opens_block b) cs
+blocks_taken b cs = count_of (λ c. opens_block b c.gtid.number) cs
 
-abbrev pub number_after : ℕ → ℕ → Option Cert → ℕ
-number_after b q None = q * b + 1
-number_after b q (Some c) = cond (((c.gtid.number % b) == 0)) (q * b + 1) (c.gtid.number + 1)
+abbrev pub number_in : Option Cert → Option ℕ
+number_in None = None
+number_in (Some c) = Some c.gtid.number
 
 abbrev pub next_number : Setup → List Cert → Inc → ℕ
-next_number r cs origin = number_after r.limits.block (blocks_taken r.limits.block cs) (last_of origin cs)
+next_number r cs origin = number_after r.limits.block (blocks_taken r.limits.block cs) (number_in (last_of origin cs))
 
 -- ---- the outcome
 

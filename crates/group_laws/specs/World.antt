@@ -1,5 +1,5 @@
 -- A run of the whole group, newest first, and its one ordered list.
-use Rattle.std.specs.Prelude.{◌≡◌, ℕ, suc, ◌<◌, ◌≤◌, Bool, true, false, cond, ◌&&◌, ◌||◌, List, [], ◌∷◌, Option, Some, None, length, ◌==◌}
+use Rattle.std.specs.Prelude.{◌≡◌, ℕ, suc, ◌<◌, Bool, true, false, cond, ◌&&◌, ◌||◌, List, [], ◌∷◌, Option, Some, None, ◌==◌}
 use Rattle.group_rules.specs.Events.{Setup}
 use Rattle.group_laws.specs.Lists.{IsPast, newest}
 use Rattle.group_laws.specs.Names.{Inc, inc_eq, bytes_eq, Gtid, gtid_eq, has, Item}
