@@ -25,9 +25,9 @@ use Rattle.group_rules.specs.declared.marks.Reply.TheVariants.{NotQueued}
 use Rattle.node_rules.specs.declared.event.PaxosEvent.TheVariants.{Heard}
 use Rattle.node_rules.specs.Slots.{Entry as SlotEntry}
 use Rattle.node_rules.specs.Learner.{next_entry}
-use Rattle.node_rules.specs.Node.{Node, message}
+use Rattle.node_rules.specs.Node.{Node, message, takes_effect}
 use Rattle.node_rules.specs.Node.{Effect as NodeEffect}
-use Rattle.node_rules.specs.Taking.{take, take_next, takes_effect}
+use Rattle.node_rules.specs.Taking.{take, take_next}
 use Rattle.node_rules.specs.Welcoming.{Shown, welcome_of}
 use Rattle.node_rules.specs.World.{Takes, takes, greets, greet_by as node_greets}
 use Rattle.group_rules.specs.View.{shown, void_if}
