@@ -1,7 +1,7 @@
 use crate::kept::Log;
 use crate::{both, push};
 use std::thread::{self, join};
-use turn_cell::{Pass, TurnCell};
+use turn_cell::{Behaviour, Pass, TurnCell};
 
 #[test]
 fn two_threads_push_once_each(rt: HostRuntime) {
