@@ -15,10 +15,10 @@ use Rattle.byte_forms.proofs.FieldLemmas.{go_on-got}
 use Rattle.byte_forms.proofs.FormLemmas.{IsListed, list_form}
 use Rattle.gtid_sets.specs.Sets.{Run, Gtids, before_run}
 use Rattle.gtid_sets.specs.Canonical.{last_number, IsUuid, IsRun, IsBefore, IsCanonical}
-use Rattle.gtid_sets.specs.Spelling.{Interval, Source, interval_of, with_first, sources_of, runs_of, source_bytes, set_bytes, least_first, next_source_after, next_set, HasCounts}
+use Rattle.gtid_sets.specs.Spelling.{Interval, Source, interval_of, with_first, sources_of, runs_of, source_bytes, set_bytes, least_first, is_above, uuid_of, next_source_after, next_set, HasCounts}
 use Rattle.gtid_sets.proofs.Keys.{bytes_eq-key, bytes_lt-key, before_run-key}
 use Rattle.gtid_sets.proofs.RunLemmas.{before_head}
-use Rattle.gtid_sets.proofs.SpellingLemmas.{IsIntervalAfter, above_before, IsSourceAfter, source_form}
+use Rattle.gtid_sets.proofs.SpellingLemmas.{IsIntervalAfter, IsSourceAfter, source_form}
 
 -- ---- from runs to sources and back
 
@@ -47,7 +47,7 @@ runs_of-sources_of (r ∷ rs) = runs_with_first r (sources_of rs) ∙ ap (λ xs.
 
 pub record Shaped (before : Option Source) (s : Source) : Type 0 where
   pub uuid : IsUuid s.uuid
-  pub above : above_before before s.uuid ≡ true
+  pub above : is_above (uuid_of before) s.uuid ≡ true
   pub chain : IsChain IsIntervalAfter None s.intervals
   pub some : 1 ≤ length s.intervals
 

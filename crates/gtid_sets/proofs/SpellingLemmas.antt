@@ -18,7 +18,7 @@ use Rattle.byte_forms.proofs.FieldLemmas.{are_bytes_parts, go_on-got, field-agai
 use Rattle.byte_forms.proofs.FormLemmas.{IsListed, list_form}
 use Rattle.gtid_sets.specs.Sets.{Run, Gtids, before_run}
 use Rattle.gtid_sets.specs.Canonical.{last_number, IsUuid, IsRun, IsBefore, IsCanonical}
-use Rattle.gtid_sets.specs.Spelling.{Interval, Source, interval_of, with_first, sources_of, runs_of, interval_bytes, source_bytes, set_bytes, least_first, next_interval_after, begins_uuid, next_source_after, next_set, HasCounts}
+use Rattle.gtid_sets.specs.Spelling.{Interval, Source, interval_of, with_first, sources_of, runs_of, interval_bytes, source_bytes, set_bytes, least_first, next_interval_after, is_above, begins_uuid, uuid_of, next_source_above, next_source_after, next_set, HasCounts}
 use Rattle.gtid_sets.proofs.Keys.{bytes_eq-key, bytes_lt-key, before_run-key}
 
 -- ---- intervals
@@ -52,11 +52,6 @@ interval_form before = record {
 }
 
 -- ---- UUIDs, ascending
-
--- whether a UUID is above the one before
-abbrev pub above_before : Option Source → List ℕ → Bool
-above_before None u = true
-above_before (Some b) u = bytes_lt b.uuid u
 
 lt_cons : (x y : ℕ) (xs ys : List ℕ) → bytes_lt (x ∷ xs) (y ∷ ys) ≡ cond (ltb x y) true (cond (eqb x y) (bytes_lt xs ys) false)
 lt_cons x y xs ys = by_tests (ltb x y) (eqb x y)
@@ -93,31 +88,31 @@ lt_greatest (y ∷ ys) (x ∷ front) more hm h =
     same_cases false true s t later k = later k
     same_cases false false s t later k = k
 
-fronts_uuid : (before : Option Source) (u front more : List ℕ) → length u ≡ 16 → are_bytes u ≡ true → above_before before u ≡ true → front ++ more ≡ u → begins_uuid before front ≡ true
-fronts_uuid None u front more long hu p e = (are_bytes_parts front more (ap are_bytes e ∙ hu)).0
+fronts_uuid : (before : Option (List ℕ)) (u front more : List ℕ) → length u ≡ 16 → are_bytes u ≡ true → is_above before u ≡ true → front ++ more ≡ u → begins_uuid before front ≡ true
+fronts_uuid None u front more long hu p e = and_from (are_bytes front) true (are_bytes_parts front more (ap are_bytes e ∙ hu)).0 refl
 fronts_uuid (Some b) u front more long hu p e =
     let parts = are_bytes_parts front more (ap are_bytes e ∙ hu) in
     let rest : length more ≡ 16 - length front = omega (arith, length-append front more, ap length e) in
-    let lt = lt_greatest b.uuid front more parts.1 (ap (bytes_lt b.uuid) e ∙ p) in
-    and_from (are_bytes front) (bytes_lt b.uuid (front ++ replicate (16 - length front) 255)) parts.0 (ap (λ n. bytes_lt b.uuid (front ++ replicate n 255)) (sym rest) ∙ lt)
+    let lt = lt_greatest b front more parts.1 (ap (bytes_lt b) e ∙ p) in
+    and_from (are_bytes front) (bytes_lt b (front ++ replicate (16 - length front) 255)) parts.0 (ap (λ n. bytes_lt b (front ++ replicate n 255)) (sym rest) ∙ lt)
 
-pub uuid_again : (before : Option Source) (u rest : List ℕ) → IsUuid u → above_before before u ≡ true → field (begins_uuid before) 16 (u ++ rest) ≡ Got u rest
+pub uuid_again : (before : Option (List ℕ)) (u rest : List ℕ) → IsUuid u → is_above before u ≡ true → field (begins_uuid before) 16 (u ++ rest) ≡ Got u rest
 uuid_again before u rest hu p =
     subst (λ (n : ℕ). field (begins_uuid before) n (u ++ rest) ≡ Got u rest) hu.long (field-again (begins_uuid before) u rest (λ front more e. fronts_uuid before u front more hu.long hu.bytes p e))
 
-begins_whole : (before : Option Source) (u : List ℕ) → length u ≡ 16 → begins_uuid before u ≡ true → IsUuid u × (above_before before u ≡ true)
-begins_whole None u long h = (record { long = long; bytes = h }, refl)
+begins_whole : (before : Option (List ℕ)) (u : List ℕ) → length u ≡ 16 → begins_uuid before u ≡ true → IsUuid u × (is_above before u ≡ true)
+begins_whole None u long h = (record { long = long; bytes = (and_parts (are_bytes u) true h).0 }, refl)
 begins_whole (Some b) u long h =
-    let parts = and_parts (are_bytes u) (bytes_lt b.uuid (u ++ replicate (16 - length u) 255)) h in
+    let parts = and_parts (are_bytes u) (bytes_lt b (u ++ replicate (16 - length u) 255)) h in
     let none : 16 - length u ≡ 0 = omega arith in
-    (record { long = long; bytes = parts.0 }, ap (bytes_lt b.uuid) (sym (append-nil u)) ∙ ap (λ n. bytes_lt b.uuid (u ++ replicate n 255)) (sym none) ∙ parts.1)
+    (record { long = long; bytes = parts.0 }, ap (bytes_lt b) (sym (append-nil u)) ∙ ap (λ n. bytes_lt b (u ++ replicate n 255)) (sym none) ∙ parts.1)
 
-pub record IsNextUuid (before : Option Source) (bytes u rest : List ℕ) : Type 0 where
+pub record IsNextUuid (before : Option (List ℕ)) (bytes u rest : List ℕ) : Type 0 where
   pub uuid : IsUuid u
-  pub above : above_before before u ≡ true
+  pub above : is_above before u ≡ true
   pub parts : bytes ≡ u ++ rest
 
-pub uuid_got : (before : Option Source) (bytes u rest : List ℕ) → field (begins_uuid before) 16 bytes ≡ Got u rest → IsNextUuid before bytes u rest
+pub uuid_got : (before : Option (List ℕ)) (bytes u rest : List ℕ) → field (begins_uuid before) 16 bytes ≡ Got u rest → IsNextUuid before bytes u rest
 uuid_got before bytes u rest e =
     let f = field-got (begins_uuid before) 16 bytes u rest e in
     let w = begins_whole before u f.long (f.passes (omega arith)) in
@@ -127,23 +122,23 @@ uuid_got before bytes u rest e =
 
 pub record IsSourceAfter (before : Option Source) (s : Source) : Type 0 where
   pub uuid : IsUuid s.uuid
-  pub above : above_before before s.uuid ≡ true
+  pub above : is_above (uuid_of before) s.uuid ≡ true
   pub intervals : IsListed 1 IsIntervalAfter s.intervals
 
 intervals_form : IsForm (IsListed 1 IsIntervalAfter) (several interval_bytes) (list_of 1 next_interval_after)
 intervals_form = list_form 1 IsIntervalAfter interval_bytes next_interval_after interval_form
 
 pub source_form : (before : Option Source) → IsForm (IsSourceAfter before) source_bytes (next_source_after before)
-unfolding next_source_after
+unfolding next_source_above
 source_form before = record {
   reads = λ s rest fits.
-      (let u = uuid_again before s.uuid (several interval_bytes s.intervals ++ rest) fits.uuid fits.above in
+      (let u = uuid_again (uuid_of before) s.uuid (several interval_bytes s.intervals ++ rest) fits.uuid fits.above in
       let is = intervals_form.reads s.intervals rest fits.intervals in
       rw (append_assoc s.uuid (several interval_bytes s.intervals) rest, u, is) refl);
   spells = λ bytes rest s e.
-      (let f = go_on-got (field (begins_uuid before) 16 bytes) (λ uuid. list_of 1 next_interval_after >>= λ intervals. pure (record { uuid = uuid; intervals = intervals })) s rest e in
+      (let f = go_on-got (field (begins_uuid (uuid_of before)) 16 bytes) (λ uuid. list_of 1 next_interval_after >>= λ intervals. pure (record { uuid = uuid; intervals = intervals })) s rest e in
       let g = go_on-got (list_of 1 next_interval_after f.behind) (λ intervals. pure (record { uuid = f.first; intervals = intervals })) s rest f.then_reads in
-      let u = uuid_got before bytes f.first f.behind f.reads in
+      let u = uuid_got (uuid_of before) bytes f.first f.behind f.reads in
       let is = intervals_form.spells f.behind g.behind g.first g.reads in
       let j : Source = record { uuid = f.first; intervals = g.first } in
       let end : Got j g.behind ≡ Got s rest = g.then_reads in

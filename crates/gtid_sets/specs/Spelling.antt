@@ -61,16 +61,28 @@ next_interval_after before = do
   last ← number_in 8 first last_number
   pure (record { first = first; last = last })
 
--- whether a UUID above the one before begins so: the greatest that begins so is above
-abbrev pub begins_uuid : Option Source → List ℕ → Bool
-begins_uuid None front = are_bytes front
-begins_uuid (Some b) front = are_bytes front && bytes_lt b.uuid (front ++ replicate (16 - length front) 255)
+-- whether a UUID is above the one before
+abbrev pub is_above : Option (List ℕ) → List ℕ → Bool
+is_above None u = true
+is_above (Some b) u = bytes_lt b u
 
-unfoldable pub next_source_after : Option Source → Reader Source
-next_source_after before = do
+-- whether a UUID above the one before begins so: the greatest that begins so is above
+abbrev pub begins_uuid : Option (List ℕ) → List ℕ → Bool
+begins_uuid before front = are_bytes front && is_above before (front ++ replicate (16 - length front) 255)
+
+-- a source above the UUID before
+unfoldable pub next_source_above : Option (List ℕ) → Reader Source
+next_source_above before = do
   uuid ← field (begins_uuid before) 16
   intervals ← list_of 1 next_interval_after
   pure (record { uuid = uuid; intervals = intervals })
+
+abbrev pub uuid_of : Option Source → Option (List ℕ)
+uuid_of None = None
+uuid_of (Some s) = Some s.uuid
+
+abbrev pub next_source_after : Option Source → Reader Source
+next_source_after before = next_source_above (uuid_of before)
 
 unfoldable pub next_set : Reader Gtids
 next_set = do
