@@ -94,7 +94,7 @@ field-stops begins (suc n) (b ∷ bs) (suc i) left lt few e h stops =
 
 -- ---- numbers
 
-are_bytes_parts : (xs ys : List ℕ) → are_bytes (xs ++ ys) ≡ true → (are_bytes xs ≡ true) × (are_bytes ys ≡ true)
+pub are_bytes_parts : (xs ys : List ℕ) → are_bytes (xs ++ ys) ≡ true → (are_bytes xs ≡ true) × (are_bytes ys ≡ true)
 are_bytes_parts [] ys h = (refl, h)
 are_bytes_parts (x ∷ xs) ys h =
     let parts = and_parts _ _ h in

@@ -7,3 +7,5 @@ pub mod PartLemmas
 pub mod UnionLemmas
 pub mod StepLemmas
 pub mod LawLemmas
+pub mod SpellingLemmas
+pub mod SourceLemmas
