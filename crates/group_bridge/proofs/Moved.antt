@@ -1,13 +1,13 @@
 -- Each step of a member is made of acts of its node, of things left in its history, and of messages that aren't its node's.
-use Rattle.std.proofs.Common.{eq-eqb, ◌≡◌, ℕ, zero, suc, Bool, true, false, Option, Some, None, List, [], ◌∷◌, refl, sym, subst}
-use Rattle.std.specs.Prelude.{◌^◌, ◌+◌, length, min, ◌&&◌, if◌then◌else◌}
+use Rattle.std.proofs.Common.{eq-eqb, ◌≡◌, ℕ, Bool, true, false, Option, Some, None, List, [], ◌∷◌, refl}
+use Rattle.std.specs.Prelude.{◌+◌, length, if◌then◌else◌}
 use Rattle.std.proofs.lemmas.Bool.{false≢true, and_from}
 use Rattle.gr_ids.specs.Names.{id_eq, inc_eq}
 use Rattle.gr_ids.specs.declared.names.Inc.{Inc}
 use Rattle.gr_ids.specs.declared.names.Gtid.{Gtid}
 use Rattle.gr_ids.specs.declared.names.ValueId.{ValueId}
 use Rattle.gr_ids.specs.declared.levels.Level.{Level}
-use Rattle.gr_ids.specs.declared.levels.MemberState.TheVariants.{Online, Recovering, Error}
+use Rattle.gr_ids.specs.declared.levels.MemberState.TheVariants.{Recovering, Error}
 use Rattle.gtid_sets.specs.Sets.{Gtids}
 use Rattle.key_items.specs.declared.change.Change.{Change}
 use Rattle.key_items.specs.declared.change.ChangeKind.TheVariants.{Insert as Inserts, Update as Updates, Delete as Deletes}
@@ -19,9 +19,7 @@ use Rattle.txn_forms.specs.declared.body.Part.{Part}
 use Rattle.txn_forms.specs.declared.body.Body.{Body}
 use Rattle.txn_forms.specs.declared.body.Body.TheVariants.{Txn as HasTxn, Prepared, Sync, Executed, Online as Arrives, Mode as Switches, Primary as Appoints, Part as PartOf}
 use Rattle.txn_forms.specs.declared.body.ModeChange.TheVariants.{Multi as ToMulti, Single as ToSingle}
-use Rattle.paxos_forms.specs.declared.message.Message.{Message}
-use Rattle.paxos_forms.specs.declared.message.Wire.{Wire}
-use Rattle.paxos_forms.specs.declared.message.Wire.TheVariants.{Prepare, Promise, Accept, Accepted, Learn, Offer, Welcome as Greet, Ask as Asks, Give as Gives, Alive, Gone}
+use Rattle.paxos_forms.specs.declared.message.Wire.TheVariants.{Offer}
 use Rattle.paxos_forms.specs.declared.welcome.Welcome.{Welcome}
 use Rattle.paxos_forms.specs.declared.recovery.Give.{Give}
 use Rattle.group_rules.specs.declared.requests.Request.{Request}
@@ -30,18 +28,18 @@ use Rattle.group_rules.specs.declared.requests.Operator.{Operator}
 use Rattle.group_rules.specs.declared.requests.Operator.TheVariants.{Campaign, Tell, Leave, SetPrimary, Single as SetSingle, Multi as SetMulti, AskDonor, DonorFailed, Finish}
 use Rattle.group_rules.specs.declared.answers.Holder.{Holder}
 use Rattle.group_rules.specs.declared.answers.Answer.{Answer}
-use Rattle.group_rules.specs.declared.answers.Answer.TheVariants.{Held, Got, Sent, CommittedEmpty, Committed as CommittedAs, RolledBack, Busy, NoTransaction, NotOnline, RowLocked, Killed, Conflict as ConflictWith, HoldTimeout, MemberLeft, TooLarge}
+use Rattle.group_rules.specs.declared.answers.Answer.TheVariants.{Held, Got, Sent, CommittedEmpty, Committed as CommittedAs, RolledBack, Busy, NoTransaction, NotOnline, RowLocked, Killed, Conflict as ConflictWith, HoldTimeout, MemberLeft}
 use Rattle.group_rules.specs.declared.marks.Cause.{Cause}
-use Rattle.group_rules.specs.declared.marks.Cause.TheVariants.{Welcomed, OwnOnline, Removed, Gone as WasGone, Majority as NoMajority, Extra, NoDonor}
+use Rattle.group_rules.specs.declared.marks.Cause.TheVariants.{Welcomed, Majority as NoMajority, Extra, NoDonor}
 use Rattle.group_rules.specs.declared.marks.Reply.TheVariants.{Sent as SentAs, Ballot as AtBallot, Asked, Failed, Finished, NotOnline as IsNotOnline, NoAskDue, NoAskPending, NotQueued, AlreadyDone}
-use Rattle.node_rules.specs.declared.event.PaxosEvent.TheVariants.{Heard, Own, Propose, Tick, Campaign as CampaignEvent}
+use Rattle.node_rules.specs.declared.event.PaxosEvent.TheVariants.{Own, Tick, Campaign as CampaignEvent}
 use Rattle.node_rules.specs.Node.{quiet}
 use Rattle.node_rules.specs.Step.{node_step}
-use Rattle.node_rules.specs.World.{Owns, Campaigns, Proposes}
+use Rattle.node_rules.specs.World.{Campaigns, Proposes}
 use Rattle.node_rules.specs.World.{Ticks as NodeTicks}
 use Rattle.group_rules.specs.View.{seated}
-use Rattle.group_rules.specs.Events.{Took, Skips, Done, Made, Committed, Is, Gave, Answered, Begun, Changed, Replied, Called, AsksCommit, Ends, Enters, Restores, AskFails, Came, Event, Hears, Ticks, Works, Calls, Operates, Entry, Cert}
-use Rattle.group_rules.specs.Life.{state, is_up, executed, view, last_made, ticks, entry_at, upto}
+use Rattle.group_rules.specs.Events.{Done, Made, Committed, Is, Gave, Answered, Begun, Changed, Replied, Called, AsksCommit, Ends, Enters, Restores, AskFails, Event, Hears, Ticks, Works, Calls, Operates, Entry, Cert}
+use Rattle.group_rules.specs.Life.{state, is_up, executed, view, last_made, ticks, entry_at}
 use Rattle.group_rules.specs.Watch.{Watch, watch}
 use Rattle.group_rules.specs.Member.{Member, push, by_node, at_node, own, own_body, next_id, answer, last_answer, for_each, leave_session, fall, unanswered, waiting_as}
 use Rattle.group_rules.specs.Bytes.{body_bytes}
@@ -53,11 +51,11 @@ use Rattle.group_rules.specs.Queue.{pending, at_place, queue}
 use Rattle.group_rules.specs.Parts.{cut}
 use Rattle.group_rules.specs.Calls.{begin, send_sync, change_row, unless_locked, statement, own_part, ask_commit, send_parts, send_txn, commit_bytes, commit_changes, in_transaction, without_transaction, by_phase, unless_killed, call, misfit, state_then, read_only, is_read_only, txn_of}
 use Rattle.group_rules.specs.Welcomes.{hear_welcome}
-use Rattle.group_rules.specs.Recovery.{fail_ask, check_donor, check_ask, unless_self, ask_wire, ask_donor, donor_failed, give_at, restore, take_give, hear_give, pending_ask, give_of, certs_given}
+use Rattle.group_rules.specs.Recovery.{fail_ask, check_donor, check_ask, unless_self, ask_wire, ask_donor, donor_failed, give_at, restore, take_give, hear_give, pending_ask, certs_given}
 use Rattle.group_rules.specs.Points.{commit_all, prepare_all, begin_all, arrive, point, commit_one, answer_own, answer_commit, prepare_one, begin_one, begin_by, unless_pending}
 use Rattle.group_rules.specs.Taking.{answer_conflict, on_conflict, propose}
 use Rattle.group_rules.specs.Steps.{hear_add, hear_offer, done_of, time_out, time_out_by, expel_one, campaign_if_due, look_after, tell_at, member_tick, tick_on, tick_once, add_of, reply_ballot, reply_sent, if_online, leave, operate, held_mark}
-use Rattle.group_bridge.specs.Moves.{Moves, Stays, Leaves, Sends, Acts, Makes, Then, acts}
+use Rattle.group_bridge.specs.Moves.{Moves, Stays, Leaves, Sends, Acts, Makes, Then}
 
 inc_same : (i : Inc) → inc_eq i i ≡ true
 inc_same i = and_from _ _ (eq-eqb i.server i.server refl) (eq-eqb i.start i.start refl)
@@ -78,8 +76,10 @@ moves_own w holds a = go (inc_eq a.me.inc a.me.inc) (inc_same a.me.inc) (Makes v
   where
     v : Value
     v = record { id = next_id a; what = w }
+
     b : Member
     b = push (Made v holds) a
+
     go : (c : Bool) → c ≡ true → Moves a (by_node (λ n. if c then node_step (Own v) n else quiet n) b) → Moves a (at_node (Own v) b)
     go true e m = m
     go false e m = absurd (false≢true e)

@@ -1,5 +1,5 @@
 -- What follows from moves: the node comes from a list of acts, the messages are theirs or aren't the node's, the history grows.
-use Rattle.std.proofs.Common.{◌≡◌, ◌⊎◌, inl, inr, Bool, true, false, Option, Some, None, List, [], ◌∷◌, ◌++◌, refl, ◌∙◌, ap, subst}
+use Rattle.std.proofs.Common.{◌≡◌, ◌⊎◌, inl, inr, Bool, true, false, Option, List, [], ◌∷◌, ◌++◌, refl, ◌∙◌, ap, subst}
 use Rattle.gr_ids.specs.declared.names.Inc.{Inc}
 use Rattle.paxos_forms.specs.declared.message.Message.{Message}
 use Rattle.paxos_forms.specs.declared.message.Wire.{Wire}
@@ -15,7 +15,6 @@ use Rattle.node_rules.specs.Welcoming.{Shown}
 use Rattle.node_rules.specs.World.{Act, Owns, Takes, does, does_all, made_by, all_made_by}
 use Rattle.group_rules.specs.Events.{Event, Did, Made, Life}
 use Rattle.group_rules.specs.Member.{Member}
-use Rattle.group_rules.specs.Steps.{step}
 use Rattle.group_bridge.specs.Moves.{is_apart, Slot, slots_of, slots_taken, Moves, Stays, Leaves, Sends, Acts, Makes, Reads, Then, IsActs, StepIsActs}
 use Rattle.group_bridge.proofs.Taken.{steps}
 

@@ -1,7 +1,7 @@
 -- Taking a slot is an act of the node, with the Welcome that it causes; and so is a whole step.
-use Rattle.std.proofs.Common.{◌≡◌, ◌⊎◌, inl, inr, ℕ, zero, suc, Bool, true, false, Option, Some, None, List, [], ◌∷◌, ◌++◌, refl, sym, ap, subst, ◌∙◌}
+use Rattle.std.proofs.Common.{◌≡◌, inl, inr, ℕ, zero, suc, Bool, true, false, Option, Some, None, List, [], ◌∷◌, ◌++◌, refl, sym, ap, subst, ◌∙◌}
 use Rattle.std.proofs.lemmas.Bool.{false≢true}
-use Rattle.std.specs.Prelude.{◌^◌, ◌+◌, ◌&&◌, not, flat_map, if◌then◌else◌}
+use Rattle.std.specs.Prelude.{◌^◌, ◌&&◌, not, flat_map, if◌then◌else◌}
 use Rattle.gr_ids.specs.Names.{inc_eq}
 use Rattle.gr_ids.specs.declared.names.Inc.{Inc}
 use Rattle.gr_ids.specs.declared.levels.MemberState.TheVariants.{Online}
@@ -26,21 +26,19 @@ use Rattle.node_rules.specs.declared.event.PaxosEvent.TheVariants.{Heard}
 use Rattle.node_rules.specs.Slots.{Entry as SlotEntry}
 use Rattle.node_rules.specs.Learner.{next_entry}
 use Rattle.node_rules.specs.Node.{Node, message, takes_effect}
-use Rattle.node_rules.specs.Node.{Effect as NodeEffect}
 use Rattle.node_rules.specs.Taking.{take, take_next}
 use Rattle.node_rules.specs.Welcoming.{Shown, welcome_of}
-use Rattle.node_rules.specs.World.{Takes, takes, greets, greet_by as node_greets}
+use Rattle.node_rules.specs.World.{greets, greet_by as node_greets}
 use Rattle.group_rules.specs.View.{shown, void_if}
 use Rattle.group_rules.specs.Events.{Did, Took, Skips, Is, Came, Replied, Entry, Event, Hears, Ticks, Works, Calls, Operates}
 use Rattle.group_rules.specs.Life.{state, is_up, is_error, view}
-use Rattle.group_rules.specs.Member.{Member, push, send, by_node, at_node, fall}
+use Rattle.group_rules.specs.Member.{Member, push, by_node, at_node, fall}
 use Rattle.group_rules.specs.Parts.{open_parts, held}
-use Rattle.group_rules.specs.Queue.{at_place, queue}
-use Rattle.group_rules.specs.Welcomes.{greet, greet_by}
+use Rattle.group_rules.specs.Welcomes.{greet_by}
 use Rattle.group_rules.specs.Points.{point}
 use Rattle.group_rules.specs.Taking.{entry_of, effect_of, on_plain, causes, take_kept, take_slot, next_slot, takes_slots, take_slots, propose, rounds, settle_slots}
 use Rattle.group_rules.specs.Steps.{hear_wire, hear_in_error, act_alive, act_in_error, act, held_mark, step}
-use Rattle.group_bridge.specs.Moves.{slots_of, slots_taken, Moves, Stays, Leaves, Sends, Acts, Reads, Then, acts, cleared, Begins}
+use Rattle.group_bridge.specs.Moves.{slots_of, slots_taken, Moves, Stays, Leaves, Reads, Then, cleared, Begins}
 use Rattle.group_bridge.proofs.Moved.{moves_fall, moves_on_conflict, moves_point, moves_propose, moves_after_offer, moves_after_welcome, moves_after_other, moves_ask, moves_give, moves_tick_once, moves_work, moves_session, moves_operator, moves_held}
 
 -- ---- lists
@@ -101,6 +99,7 @@ sends_greeting a x v g d z t h = subst (λ s. Moves a (push d (record a { node =
   where
     one : flat_map (greets (Some v) (take a.node).node) (take a.node).took ≡ g ∷ []
     one = ap (λ l. flat_map (greets (Some v) (take a.node).node) l) t ∙ (append_nil (greets (Some v) (take a.node).node x) ∙ h)
+
     eq : a.sent ++ ((take a.node).sent ++ flat_map (greets (Some v) (take a.node).node) (take a.node).took) ≡ (a.sent ++ (take a.node).sent) ++ g ∷ []
     eq = ap (λ l. a.sent ++ ((take a.node).sent ++ l)) one ∙ sym (append_assoc a.sent (take a.node).sent (g ∷ []))
 
@@ -122,6 +121,7 @@ moves_greeting a x j d z t e y true = go (take a.node).node.turns refl
   where
     v : Shown
     v = shown (view a.setup (d ∷ a.life))
+
     go : (o : Option Turns) → (take a.node).node.turns ≡ o → Moves a (greet_by j.inc o (push d (by_node take a)))
     go None f = reads_plainly a d (z ∙ ap slots_taken (sym t))
     go (Some u) f = sends_greeting a x v (message (take a.node).node j.inc (Greet (welcome_of (take a.node).node u v))) d z t (greets_one v u (take a.node).node x j e y f)
@@ -166,15 +166,20 @@ moves_plain a x p b t k h = go x.value.what refl
   where
     e : Entry
     e = entry_of a.setup a.life x.slot p b x.value
+
     c : Member
     c = push (Took e) (by_node take a)
+
     taken : Moves a c
     taken = reads_plainly a (Took e) (ap slots_taken (sym t))
+
     falls : (z : Bool) → Moves c (elim z [ true ↦ fall Removed c | false ↦ c ])
     falls true = moves_fall Removed c
     falls false = Stays c
+
     in_effect : b ≡ true → takes_effect x.kept ≡ true
     in_effect z = ap takes_effect k ∙ z
+
     go : (y : What) → x.value.what ≡ y → Moves a (on_plain x.value.id.origin y e.holds c)
     go (Add j) f = moves_greeting a x j (Took e) refl t (in_effect (add_plain a x.slot p b x.value j f h)) f (is_up (state c.life) && not (inc_eq j.inc c.me.inc))
     go (Remove i) f = Then taken (falls (inc_eq i c.me.inc))
@@ -186,10 +191,13 @@ moves_kept a x p b t k = go e.effect refl
   where
     e : Entry
     e = entry_of a.setup a.life x.slot p b x.value
+
     c : Member
     c = push (Took e) (by_node take a)
+
     taken : Moves a c
     taken = reads_plainly a (Took e) (ap slots_taken (sym t))
+
     go : (f : Effect) → e.effect ≡ f → Moves a (causes e f c)
     go Plain h = moves_plain a x p b t k h
     go Void h = taken
@@ -202,6 +210,7 @@ moves_slot a x xs t = go x.kept refl
   where
     alone : (take a.node).took ≡ x ∷ []
     alone = t ∙ ap (λ l. x ∷ l) (took_one a.node x xs t)
+
     go : (r : Kept) → x.kept ≡ r → Moves a (take_kept x.slot x.value r (by_node take a))
     go IsSkipped q = reads_plainly a (Skips x.slot x.value) (ap slots_taken (sym alone))
     go (KeptAt p b) q = moves_kept a x p b alone q

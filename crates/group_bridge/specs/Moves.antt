@@ -8,7 +8,6 @@ use Rattle.paxos_forms.specs.declared.message.Wire.TheVariants.{Offer, Ask, Give
 use Rattle.txn_forms.specs.declared.body.Body.{Body}
 use Rattle.node_rules.specs.declared.event.PaxosEvent.TheVariants.{Heard}
 use Rattle.node_rules.specs.Lists.{In}
-use Rattle.node_rules.specs.Node.{Effect}
 use Rattle.node_rules.specs.declared.taken.Taken.{Taken}
 use Rattle.node_rules.specs.Taking.{take}
 use Rattle.node_rules.specs.Welcoming.{Shown}

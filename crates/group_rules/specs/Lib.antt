@@ -28,3 +28,4 @@ pub mod Script
 pub mod Texts
 pub mod OneList
 pub mod Legal
+pub mod Fresh

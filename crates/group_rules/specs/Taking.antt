@@ -1,5 +1,5 @@
 -- The decided slots are taken one by one; after them a leader proposes.
-use Rattle.std.specs.Prelude.{ℕ, zero, suc, ◌^◌, Bool, true, false, ◌&&◌, ◌||◌, Option, Some, None, List, [], ◌∷◌}
+use Rattle.std.specs.Prelude.{ℕ, zero, suc, ◌^◌, Bool, true, false, ◌&&◌, ◌||◌, Option, Some, List, [], ◌∷◌}
 use Rattle.gr_ids.specs.Names.{inc_eq, id_eq}
 use Rattle.slot_values.specs.declared.kept.Kept.{Kept}
 use Rattle.slot_values.specs.declared.kept.Kept.TheVariants.{At as KeptAt, Skipped as IsSkipped}
