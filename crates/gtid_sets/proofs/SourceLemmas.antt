@@ -111,7 +111,7 @@ not_first : (b : Source) (ss : List Source) → IsUuid b.uuid → IsChain IsSour
 not_first b [] hb h r e = refl
 not_first b (s ∷ ss) hb h r e =
     let other : bytes_eq r.source s.uuid ≡ false =
-        ap (λ u. bytes_eq u s.uuid) e ∙ bytes_eq-key b.uuid s.uuid hb h.0.uuid ∙ (let k = sym (bytes_lt-key b.uuid s.uuid hb h.0.uuid) ∙ h.0.above in grind (arith, nat_tests, k)) in
+    ap (λ u. bytes_eq u s.uuid) e ∙ bytes_eq-key b.uuid s.uuid hb h.0.uuid ∙ (let k = sym (bytes_lt-key b.uuid s.uuid hb h.0.uuid) ∙ h.0.above in grind (arith, nat_tests, k)) in
     rw (with_first, other) refl
 
 same_first : (u : List ℕ) (i : Interval) (is : List Interval) (ss : List Source) → with_first (run_of u i) (record { uuid = u; intervals = is } ∷ ss) ≡ record { uuid = u; intervals = i ∷ is } ∷ ss
@@ -167,6 +167,7 @@ canonical_source u before i [] rest hu pos c hr b = (run, next rest hr b, hr)
   where
     run : IsRun (run_of u i)
     run = record { uuid = hu; positive = omega (arith, c.0.low); ordered = c.0.ordered; bounded = c.0.high }
+
     next : (xs : Gtids) → IsCanonical xs → AllBehind u xs → IsBefore (run_of u i) xs
     next [] h k = tt
     next (x ∷ xs) h k = before_source (run_of u i) x run h.0 k
@@ -187,6 +188,7 @@ canonical_runs_of before (s ∷ ss) h = some s.intervals refl (canonical_runs_of
         first : (is : List Interval) → is ≡ x.intervals → AllBehind s.uuid (map (run_of x.uuid) x.intervals ++ runs_of xs)
         first [] e = absurd (omega (arith, c.0.intervals.1, ap length e))
         first (i ∷ is) e = subst (λ (ys : List Interval). AllBehind s.uuid (map (run_of x.uuid) ys ++ runs_of xs)) e c.0.above
+
     some : (is : List Interval) → is ≡ s.intervals → IsCanonical (runs_of ss) → IsCanonical (map (run_of s.uuid) s.intervals ++ runs_of ss)
     some [] e later = absurd (omega (arith, h.0.intervals.1, ap length e))
     some (i ∷ is) e later =

@@ -165,10 +165,13 @@ below_left r q qs hr hq o = by_test (ltb r.first q.first) refl
   where
     lower : Run
     lower = record r { last = cond (ltb r.last q.first) r.last (q.first - 1) }
+
     is_lower : true ≡ ltb r.first q.first → IsRun lower
     is_lower e = record { uuid = hr.uuid; positive = hr.positive; ordered = grind (arith, nat_tests, e, hr.ordered); bounded = grind (arith, nat_tests, hr.bounded) }
+
     lower_first : true ≡ ltb r.first q.first → precedes lower q ≡ true
     lower_first e = precedes-key lower q (is_lower e) hq.0 ∙ grind (arith, nat_tests, o.source, hq.0.positive, e)
+
     by_test : (t : Bool) → t ≡ ltb r.first q.first → minus (cond t (lower ∷ []) []) qs ≡ cond t (lower ∷ []) []
     by_test false e = minus_nil qs
     by_test true e = minus_earlier lower q qs (is_lower e) hq (lower_first e)
@@ -198,7 +201,7 @@ meet_step_left a b out new i j d li lj ha hb e en =
     let sb = drop_more b j d lj in
     let step = meet_left (get_or a i d) (get_or b j d) (drop (i + 1) a) (drop (j + 1) b) (parts_of a i d li ha) (parts_of b j d lj hb) (sym e) in
     let whole : meet (drop i a) (drop j b) ≡ common (get_or a i d) (get_or b j d) ++ meet (drop (i + 1) a) (drop j b) =
-        ap (λ xs. meet xs (drop j b)) sa ∙ ap (meet (get_or a i d ∷ drop (i + 1) a)) sb ∙ step ∙ ap (λ ys. common (get_or a i d) (get_or b j d) ++ meet (drop (i + 1) a) ys) (sym sb) in
+    ap (λ xs. meet xs (drop j b)) sa ∙ ap (meet (get_or a i d ∷ drop (i + 1) a)) sb ∙ step ∙ ap (λ ys. common (get_or a i d) (get_or b j d) ++ meet (drop (i + 1) a) ys) (sym sb) in
     ap (λ xs. xs ++ meet (drop (i + 1) a) (drop j b)) en ∙ append_assoc out (common (get_or a i d) (get_or b j d)) (meet (drop (i + 1) a) (drop j b)) ∙ ap (λ xs. out ++ xs) (sym whole)
 
 pub meet_step_right : (a b out new : Gtids) (i j : ℕ) (d : Run) → i < length a → j < length b → IsCanonical a → IsCanonical b → false ≡ ends_first (get_or a i d) (get_or b j d) → new ≡ out ++ common (get_or a i d) (get_or b j d)
@@ -208,7 +211,7 @@ meet_step_right a b out new i j d li lj ha hb e en =
     let sb = drop_more b j d lj in
     let step = meet_right (get_or a i d) (get_or b j d) (drop (i + 1) a) (drop (j + 1) b) (parts_of a i d li ha) (parts_of b j d lj hb) (sym e) in
     let whole : meet (drop i a) (drop j b) ≡ common (get_or a i d) (get_or b j d) ++ meet (drop i a) (drop (j + 1) b) =
-        ap (λ xs. meet xs (drop j b)) sa ∙ ap (meet (get_or a i d ∷ drop (i + 1) a)) sb ∙ step ∙ ap (λ xs. common (get_or a i d) (get_or b j d) ++ meet xs (drop (j + 1) b)) (sym sa) in
+    ap (λ xs. meet xs (drop j b)) sa ∙ ap (meet (get_or a i d ∷ drop (i + 1) a)) sb ∙ step ∙ ap (λ xs. common (get_or a i d) (get_or b j d) ++ meet xs (drop (j + 1) b)) (sym sa) in
     ap (λ xs. xs ++ meet (drop i a) (drop (j + 1) b)) en ∙ append_assoc out (common (get_or a i d) (get_or b j d)) (meet (drop i a) (drop (j + 1) b)) ∙ ap (λ xs. out ++ xs) (sym whole)
 
 -- one of the two has come to its end
