@@ -1,5 +1,5 @@
 -- What a field reads, and where its fault stands.
-use Rattle.std.proofs.Common.{◌≡◌, ℕ, zero, suc, ◌+◌, ◌-◌, ◌*◌, ◌/◌, ◌%◌, ◌^◌, ◌<◌, ◌≤◌, Bool, true, false, ◌&&◌, List, [], ◌∷◌, ◌++◌, length, get_or, take, drop, ◌⊎◌, inl, inr, refl, sym, ap, subst, ◌∙◌, arith, add-one, length-append, ltb, leb}
+use Rattle.std.proofs.Common.{◌≡◌, ℕ, zero, suc, ◌+◌, ◌-◌, ◌*◌, ◌/◌, ◌%◌, ◌^◌, ◌<◌, ◌≤◌, Bool, true, false, ◌&&◌, List, [], ◌∷◌, ◌++◌, length, get_or, take, drop, ◌⊎◌, inl, inr, refl, sym, ap, subst, ◌∙◌, arith, add-one, cond, length-append, ltb, leb}
 use Rattle.std.proofs.lemmas.List.{take-append-drop, take_more, length-take-le}
 use Rattle.std.proofs.lemmas.Bool.{and_parts, and_from, and_left, and_right, leb-true, le-leb, lt-leb, lt-ltb}
 use Rattle.std.proofs.lemmas.Nat.{div-mul-add, le-div, pow-add}
@@ -94,7 +94,7 @@ field-stops begins (suc n) (b ∷ bs) (suc i) left lt few e h stops =
 
 -- ---- numbers
 
-are_bytes_parts : (xs ys : List ℕ) → are_bytes (xs ++ ys) ≡ true → (are_bytes xs ≡ true) × (are_bytes ys ≡ true)
+pub are_bytes_parts : (xs ys : List ℕ) → are_bytes (xs ++ ys) ≡ true → (are_bytes xs ≡ true) × (are_bytes ys ≡ true)
 are_bytes_parts [] ys h = (refl, h)
 are_bytes_parts (x ∷ xs) ys h =
     let parts = and_parts _ _ h in
@@ -242,7 +242,21 @@ number-stops k low high bytes i lt few h stops =
 -- ---- slices
 
 pub word-whole : (n : ℕ) (bytes : List ℕ) → n ≤ length bytes → word n bytes ≡ Got (take n bytes) (drop n bytes)
-word-whole n bytes enough = field-whole (λ _. true) n bytes enough (λ j pos le. refl)
+unfolding word
+word-whole n bytes enough = rw (le-leb n (length bytes) enough) refl
 
 pub word-short : (n : ℕ) (bytes : List ℕ) → length bytes < n → word n bytes ≡ Fault 0
-word-short n bytes few = field-short (λ _. true) n bytes few (λ j pos le. refl)
+unfolding word
+word-short n bytes few = rw (lt-leb n (length bytes) few) refl
+
+-- what a word is
+pub word-got : (n : ℕ) (bytes found rest : List ℕ) → word n bytes ≡ Got found rest → (length found ≡ n) × (bytes ≡ found ++ rest)
+unfolding word
+word-got n bytes found rest e = by_test (leb n (length bytes)) refl e
+  where
+    by_test : (t : Bool) → leb n (length bytes) ≡ t → cond t (Got (take n bytes) (drop n bytes)) (Fault 0) ≡ Got found rest → (length found ≡ n) × (bytes ≡ found ++ rest)
+    by_test false h g = absurd cc
+    by_test true h g =
+        let front : take n bytes ≡ found = cc in
+        let back : drop n bytes ≡ rest = cc in
+        (ap length (sym front) ∙ length-take-le n bytes (leb-true _ _ h), sym (take-append-drop n bytes) ∙ ap (λ xs. xs ++ drop n bytes) front ∙ ap (λ xs. found ++ xs) back)

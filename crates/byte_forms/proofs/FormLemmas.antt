@@ -1,17 +1,20 @@
 -- The two sides of the basic forms, and how forms are put together.
-use Rattle.std.proofs.Common.{◌≡◌, ℕ, zero, suc, ◌+◌, ◌-◌, ◌*◌, ◌/◌, ◌%◌, ◌^◌, ◌<◌, ◌≤◌, Bool, true, false, ◌&&◌, List, [], ◌∷◌, ◌++◌, length, take, drop, Option, Some, None, refl, sym, ap, subst, ◌∙◌, arith, append_assoc}
+use Rattle.std.proofs.Common.{◌≡◌, ℕ, zero, suc, ◌+◌, ◌-◌, ◌*◌, ◌/◌, ◌%◌, ◌^◌, ◌<◌, ◌≤◌, Bool, true, false, ◌&&◌, List, [], ◌∷◌, ◌++◌, length, take, drop, Option, Some, None, refl, sym, ap, subst, ◌∙◌, arith, append_assoc, length-append}
+use Rattle.std.proofs.lemmas.List.{take_at, drop_at}
 use Rattle.std.specs.List.{flat_map}
 use Rattle.byte_forms.specs.Numbers.{number, number_of, are_bytes}
 use Rattle.byte_forms.specs.Reads.{Read, Got, Fault, Reader, go_on, ◌>>=◌, pure}
 use Rattle.byte_forms.specs.Fields.{field, word, begins_number, number_in}
 use Rattle.byte_forms.specs.Lists.{several, counted, elements, IsChain, list_of, bytes_in}
 use Rattle.byte_forms.specs.Forms.{IsForm}
-use Rattle.byte_forms.proofs.FieldLemmas.{go_on-got, field-again, field-got, number_in-again, number_in-got}
+use Rattle.byte_forms.proofs.FieldLemmas.{go_on-got, word-whole, word-got, number_in-again, number_in-got}
 
 pub word_form : (n : ℕ) → IsForm (λ bytes. length bytes ≡ n) (λ bytes. bytes) (word n)
 word_form n = record {
-  reads = λ x rest fits. subst (λ (k : ℕ). word k (x ++ rest) ≡ Got x rest) fits (field-again (λ _. true) x rest (λ front more e. refl));
-  spells = λ bytes rest x e. (let f = field-got (λ _. true) n bytes x rest e in (f.long, f.parts));
+  reads = λ x rest fits.
+      (let enough : n ≤ length (x ++ rest) = omega (arith, length-append x rest) in
+      rw (word-whole n (x ++ rest) enough, take_at x rest n fits, drop_at x rest n fits) refl);
+  spells = λ bytes rest x e. word-got n bytes x rest e;
 }
 
 pub number_form : (k low high : ℕ) → 0 < k → IsForm (λ n. (low ≤ n) × (n ≤ high) × (n < 256 ^ k)) (number k) (number_in k low high)

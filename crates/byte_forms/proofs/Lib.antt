@@ -1,3 +1,5 @@
 pub mod NumberLemmas
 pub mod FieldLemmas
 pub mod FormLemmas
+pub mod PackLemmas
+pub mod ListLemmas

@@ -1,5 +1,5 @@
 -- The fields that forms are made of, and the place of a fault in one: the first byte with which no allowed field begins.
-use Rattle.std.specs.Prelude.{ℕ, zero, suc, ◌-◌, ◌/◌, ◌^◌, Bool, true, false, ◌&&◌, nat_le, List, [], ◌∷◌, length}
+use Rattle.std.specs.Prelude.{ℕ, zero, suc, ◌-◌, ◌/◌, ◌^◌, Bool, true, false, ◌&&◌, nat_le, List, [], ◌∷◌, length, take, drop, if◌then◌else◌}
 use Rattle.byte_forms.specs.Numbers.{number_of, are_bytes}
 use Rattle.byte_forms.specs.Reads.{Read, Got, Fault, Reader, go_on, ◌>>=◌, pure}
 
@@ -14,8 +14,8 @@ field begins (suc n) (b ∷ bs) =
     ]
 
 -- any n bytes
-abbrev pub word : ℕ → Reader (List ℕ)
-word n = field (λ _. true) n
+unfoldable pub word : ℕ → Reader (List ℕ)
+word n bytes = if nat_le n (length bytes) then Got (take n bytes) (drop n bytes) else Fault 0
 
 -- Whether the spelling in k bytes of a number from low to high begins so: the front is a number from the front of low to the front of high.
 unfoldable pub begins_number : ℕ → ℕ → ℕ → List ℕ → Bool

@@ -5,3 +5,4 @@ pub mod Lists
 pub mod Forms
 pub mod Cuts
 pub mod CutFaults
+pub mod Packs

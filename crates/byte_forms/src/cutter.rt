@@ -49,6 +49,13 @@ impl<'a> Cutter<'a> {
         }
     }
 
+    /// The bytes that are left.
+    pub fn left(&self) -> &'a [u8]
+        ensures { result.now ≡ self.now.left }
+    {
+        self.left
+    }
+
     /// How many bytes were read.
     pub fn at(&self) -> u64
         ensures { result + length self.now.left ≡ self.now.total }

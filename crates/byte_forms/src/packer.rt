@@ -1,5 +1,5 @@
 // Bytes that are put one after another.
-ghost use Rattle.std.specs.Prelude.{◌≡◌, ◌++◌, [], OnOk, OnErr};
+ghost use Rattle.std.specs.Prelude.{◌≡◌, ◌++◌, [], length, take, OnOk, OnErr};
 ghost use Rattle.byte_forms.specs.Numbers.{number};
 
 use gr_ids::Memory;
@@ -70,6 +70,20 @@ impl Packer {
     {
         self.bytes.extend_from_slice(bytes)?;
         Ok(())
+    }
+
+    /// How many bytes there are.
+    pub fn len(&self) -> usize
+        ensures { result ≡ length self.now }
+    {
+        self.bytes.len()
+    }
+
+    /// Keeps the first `len` bytes, and takes the others back.
+    pub fn truncate(&mut self, len: usize)
+        ensures { self.new ≡ take len self.old }
+    {
+        self.bytes.truncate(len);
     }
 
     /// The bytes; takes no memory.

@@ -4,3 +4,8 @@ pub mod Members
 pub mod Searching
 pub mod PutLemmas
 pub mod PartLemmas
+pub mod UnionLemmas
+pub mod StepLemmas
+pub mod LawLemmas
+pub mod SpellingLemmas
+pub mod SourceLemmas

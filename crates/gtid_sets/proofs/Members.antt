@@ -54,6 +54,7 @@ within r q qs hr ht sub = record { begins = start; ends = end }
           | inl here ↦ inl here
           | inr there ↦ inr (has_behind q qs (at r n) hr.uuid ht.0 ht.1 ht.2 there)
         ]
+
     start : (number_of q.source < number_of r.source) ⊎ ((number_of q.source ≡ number_of r.source) × (q.first ≤ r.first))
     start = elim (found r.first (omega arith) hr.ordered) [
       | inl here ↦ (let k = sym (in_run-key (at r r.first) q hr.uuid ht.0) ∙ here in inr (grind (arith, nat_tests, k), grind (arith, nat_tests, k)))
@@ -63,6 +64,7 @@ within r q qs hr ht sub = record { begins = start; ends = end }
         | inr (inr gt) ↦ absurd (false≢true (grind (arith, nat_tests, there)))
       ]
     ]
+
     end : number_of q.source ≡ number_of r.source → q.first ≤ r.first → r.first ≤ q.last + 1 → r.last ≤ q.last
     end e low high = elim (cases_lt q.last r.last) [
       | inl lt ↦ elim (found (q.last + 1) (omega arith) (omega arith)) [
@@ -97,8 +99,8 @@ same_members [] (q ∷ qs) hs ht same = absurd (false≢true (same (at q q.first
 same_members (r ∷ rs) [] hs ht same = absurd (false≢true (sym (same (at r r.first) hs.0.uuid) ∙ first_member r rs hs.0))
 same_members (r ∷ rs) (q ∷ qs) hs ht same =
     let heads : r ≡ q = same_run r q hs.0 ht.0
-        (within r q qs hs.0 ht (λ g hg h. sym (same g hg) ∙ or_left _ _ h))
-        (within q r rs ht.0 hs (λ g hg h. same g hg ∙ or_left _ _ h)) in
+    (within r q qs hs.0 ht (λ g hg h. sym (same g hg) ∙ or_left _ _ h))
+    (within q r rs ht.0 hs (λ g hg h. same g hg ∙ or_left _ _ h)) in
     let tails : rs ≡ qs = same_members rs qs hs.2 ht.2 (λ g hg. behind g hg heads) in
     cc
   where

@@ -110,8 +110,10 @@ has_common r b g hg hr hb = by_test (bytes_eq r.source b.source && leb (cond (lt
   where
     x : Run
     x = record { source = r.source; first = cond (ltb r.first b.first) b.first r.first; last = cond (ltb r.last b.last) r.last b.last }
+
     kx : in_run g x ≡ (eqb (number_of r.source) (number_of g.source) && (leb x.first g.number && leb g.number x.last))
     kx = ap (λ t. t && (leb x.first g.number && leb g.number x.last)) (bytes_eq-key r.source g.source hr.uuid hg)
+
     by_test : (t : Bool) → t ≡ (bytes_eq r.source b.source && leb (cond (ltb r.first b.first) b.first r.first) (cond (ltb r.last b.last) r.last b.last))
         → has (cond t (x ∷ []) []) g ≡ (in_run g r && in_run g b)
     by_test false e =
@@ -197,8 +199,10 @@ around_canonical r b hr hb = by_tests (ltb r.first b.first) (ltb b.last r.last) 
   where
     lower : Run
     lower = record r { last = cond (ltb r.last b.first) r.last (b.first - 1) }
+
     upper : Run
     upper = record r { first = cond (ltb b.last r.first) r.first (b.last + 1) }
+
     by_tests : (s t : Bool) → s ≡ ltb r.first b.first → t ≡ ltb b.last r.last → AreParts r (cond s (lower ∷ []) []) → AreParts r (cond t (upper ∷ []) []) → IsCanonical (cond s (lower ∷ []) [] ++ cond t (upper ∷ []) [])
     by_tests false false es et ps pt = tt
     by_tests false true es et ps pt = (part_run r upper hr pt.0, tt, tt)
@@ -232,11 +236,13 @@ has_cut b r g hg hb hr =
   where
     lower : Run
     lower = record r { last = cond (ltb r.last b.first) r.last (b.first - 1) }
+
     upper : Run
     upper = record r { first = cond (ltb b.last r.first) r.first (b.last + 1) }
+
     by_tests : (s t : Bool) → s ≡ ltb r.first b.first → t ≡ ltb b.last r.last → bytes_eq r.source g.source ≡ eqb (number_of r.source) (number_of g.source)
         → has (cond (eqb (number_of r.source) (number_of b.source)) (cond s (lower ∷ []) [] ++ cond t (upper ∷ []) []) (r ∷ [])) g
-            ≡ ((eqb (number_of r.source) (number_of g.source) && (leb r.first g.number && leb g.number r.last)) && not (eqb (number_of b.source) (number_of g.source) && (leb b.first g.number && leb g.number b.last)))
+        ≡ ((eqb (number_of r.source) (number_of g.source) && (leb r.first g.number && leb g.number r.last)) && not (eqb (number_of b.source) (number_of g.source) && (leb b.first g.number && leb g.number b.last)))
     by_tests false false es et kg = grind (arith, nat_tests, kg, es, et, hb.ordered, hr.ordered, hb.positive)
     by_tests false true es et kg = grind (arith, nat_tests, kg, es, et, hb.ordered, hr.ordered, hb.positive)
     by_tests true false es et kg = grind (arith, nat_tests, kg, es, et, hb.ordered, hr.ordered, hb.positive)

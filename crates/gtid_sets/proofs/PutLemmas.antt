@@ -10,7 +10,7 @@ use Rattle.gtid_sets.specs.Sets.{Run, Gtids, single, in_run, has, before_run, jo
 use Rattle.gtid_sets.specs.Canonical.{IsUuid, IsRun, IsBefore, IsCanonical, IsNumber}
 use Rattle.gtid_sets.specs.Places.{runs_before, joined_next}
 use Rattle.gtid_sets.proofs.Keys.{bytes_eq-key, bytes_lt-key, in_run-key, before_run-key}
-use Rattle.gtid_sets.proofs.RunLemmas.{Touch, before_head, joined_run, touch, with_run-before, with_run-after, with_run-touch, canonical_with_run}
+use Rattle.gtid_sets.proofs.RunLemmas.{Touch, before_head, joined_run, touch, with_run-before, with_run-after, with_run-touch, canonical_with_run, canonical_drop}
 use Rattle.gtid_sets.proofs.Searching.{at_place, with_gtid_at, before_single-key}
 
 -- ---- a run in the place of another
@@ -65,11 +65,6 @@ put_between s g i d r hg hs e er ed lt hd =
     let at : with_gtid s g ≡ take i s ++ with_run (drop i s) (single g) = with_gtid_at s g hg hs ∙ ap (λ k. take k s ++ with_run (drop k s) (single g)) (sym e) in
     ap (λ x. take i s ++ x ∷ drop i s) er ∙ sym (at ∙ ap (λ xs. take i s ++ xs) here)
 
-canonical_drop : (s : Gtids) (i : ℕ) → IsCanonical s → IsCanonical (drop i s)
-canonical_drop s zero h = h
-canonical_drop [] (suc i) h = tt
-canonical_drop (r ∷ rs) (suc i) h = canonical_drop rs i h.2
-
 -- a run that reaches no further than the one that it joins touches at most the next one
 joins_next : (r : Run) (rs : Gtids) (g : Gtid) → IsUuid g.source → IsNumber g.number → IsCanonical (r ∷ rs) → before_run (single g) r ≡ false → before_run r (single g) ≡ false → with_run rs (joined (single g) r) ≡ joined_next (joined (single g) r) rs
 unfolding joined_next
@@ -78,14 +73,18 @@ joins_next r (s ∷ rs) g hg n hs p q = by_test (before_run (joined (single g) r
   where
     is_single : IsRun (single g)
     is_single = record { uuid = hg; positive = n.0; ordered = omega arith; bounded = n.1 }
+
     t : Touch (single g) r
     t = touch (single g) r is_single hs.0 p q
+
     is_joined : IsRun (joined (single g) r)
     is_joined = joined_run (single g) r is_single hs.0 t
+
     after : before_run s (joined (single g) r) ≡ false
     after =
         let k = sym (before_run-key r s hs.0 hs.2.0) ∙ hs.1 in
         before_run-key s (joined (single g) r) hs.2.0 is_joined ∙ grind (arith, nat_tests, k, t.source, t.left, t.right, hs.0.ordered, hs.2.0.ordered)
+
     further : before_run (joined (single g) r) s ≡ false → (rest : Gtids) → IsBefore s rest → IsCanonical rest → with_run rest (joined (joined (single g) r) s) ≡ joined (joined (single g) r) s ∷ rest
     further f [] b c = refl
     further f (u ∷ us) b c =
@@ -93,6 +92,7 @@ joins_next r (s ∷ rs) g hg n hs p q = by_test (before_run (joined (single g) r
         let k = sym (before_run-key s u hs.2.0 c.0) ∙ b in
         let kr = sym (before_run-key r s hs.0 hs.2.0) ∙ hs.1 in
         with_run-before u us (joined (joined (single g) r) s) (before_run-key (joined (joined (single g) r) s) u (joined_run (joined (single g) r) s is_joined hs.2.0 t2) c.0 ∙ grind (arith, nat_tests, k, kr, t.source, t.left, t.right, t2.source, hs.2.0.ordered))
+
     by_test : (x : Bool) → x ≡ before_run (joined (single g) r) s → with_run (s ∷ rs) (joined (single g) r) ≡ (elim x [ true ↦ joined (single g) r ∷ s ∷ rs | false ↦ joined (joined (single g) r) s ∷ rs ])
     by_test true e = with_run-before s rs (joined (single g) r) (sym e)
     by_test false e = with_run-touch s rs (joined (single g) r) (sym e) after ∙ further (sym e) rs hs.2.1 hs.2.2
@@ -107,7 +107,7 @@ put_touching s g i d r j hg n hs e er ed lt hd ejd =
     let right : before_run (get_or s i d) (single g) ≡ false = ap (λ k. before_run (get_or s k d) (single g)) e ∙ at_place s g d (omega arith) in
     let parts : IsCanonical (get_or s i d ∷ drop (i + 1) s) = subst IsCanonical split (canonical_drop s i hs) in
     let there : with_run (drop i s) (single g) ≡ joined_next (joined (single g) (get_or s i d)) (drop (i + 1) s) =
-        ap (λ xs. with_run xs (single g)) split ∙ with_run-touch (get_or s i d) (drop (i + 1) s) (single g) left right ∙ joins_next (get_or s i d) (drop (i + 1) s) g hg n parts left right in
+    ap (λ xs. with_run xs (single g)) split ∙ with_run-touch (get_or s i d) (drop (i + 1) s) (single g) left right ∙ joins_next (get_or s i d) (drop (i + 1) s) g hg n parts left right in
     let same : joined (single g) (get_or s i d) ≡ j = ap (λ x. joined x (get_or s i d)) (sym er) ∙ sym ej in
     let at : with_gtid s g ≡ take i s ++ with_run (drop i s) (single g) = with_gtid_at s g hg hs ∙ ap (λ k. take k s ++ with_run (drop k s) (single g)) (sym e) in
     sym (at ∙ ap (λ xs. take i s ++ xs) (there ∙ ap (λ x. joined_next x (drop (i + 1) s)) same))

@@ -1,5 +1,5 @@
 -- A run put into a set.
-use Rattle.std.proofs.Common.{◌≡◌, ℕ, suc, ◌+◌, ◌*◌, ◌^◌, ◌<◌, ◌≤◌, Bool, true, false, cond, ◌&&◌, ◌||◌, List, [], ◌∷◌, length, refl, sym, ap, subst, ◌∙◌, inl, inr, arith, eqb, ltb, leb}
+use Rattle.std.proofs.Common.{◌≡◌, ℕ, zero, suc, get_or, drop, ◌+◌, ◌*◌, ◌^◌, ◌<◌, ◌≤◌, Bool, true, false, cond, ◌&&◌, ◌||◌, List, [], ◌∷◌, length, refl, sym, ap, subst, ◌∙◌, inl, inr, arith, eqb, ltb, leb}
 use Rattle.std.proofs.lemmas.Bool.{cases_Bool, and_parts, eqb-true, eqb-false}
 use Rattle.std.proofs.lemmas.Bool.Decides.{nat_tests}
 use Rattle.byte_forms.specs.Numbers.{number_of, are_bytes}
@@ -99,3 +99,15 @@ with_run-after r rs a h k = rw (with_run, h, k) refl
 
 pub with_run-touch : (r : Run) (rs : Gtids) (a : Run) → before_run a r ≡ false → before_run r a ≡ false → with_run (r ∷ rs) a ≡ with_run rs (joined a r)
 with_run-touch r rs a h k = rw (with_run, h, k) refl
+
+-- ---- the runs behind some of them
+
+pub canonical_drop : (s : Gtids) (i : ℕ) → IsCanonical s → IsCanonical (drop i s)
+canonical_drop s zero h = h
+canonical_drop [] (suc i) h = tt
+canonical_drop (r ∷ rs) (suc i) h = canonical_drop rs i h.2
+
+pub run_at : (s : Gtids) (i : ℕ) (d : Run) → i < length s → IsCanonical s → IsRun (get_or s i d)
+run_at [] i d lt h = absurd (omega arith)
+run_at (r ∷ rs) zero d lt h = h.0
+run_at (r ∷ rs) (suc i) d lt h = run_at rs i d (omega arith) h.2

@@ -116,6 +116,7 @@ with_gtid_at (r ∷ rs) g hg hs = by_test (with_gtid_at rs g hg hs.2) (before_ru
     there h =
         let k = sym (before_single-key r g hs.0 hg) ∙ h in
         rw (bytes_eq-key g.source r.source hg hs.0.uuid, bytes_lt-key g.source r.source hg hs.0.uuid) (grind (arith, nat_tests, k, hs.0.ordered))
+
     by_test : (with_run rs (single g) ≡ take (runs_before rs g) rs ++ with_run (drop (runs_before rs g) rs) (single g)) → (t : Bool) → t ≡ before_run r (single g)
         → with_run (r ∷ rs) (single g) ≡ take (elim t [ true ↦ suc (runs_before rs g) | false ↦ 0 ]) (r ∷ rs) ++ with_run (drop (elim t [ true ↦ suc (runs_before rs g) | false ↦ 0 ]) (r ∷ rs)) (single g)
     by_test later false e = refl

@@ -1,3 +1,4 @@
 pub mod Sets
 pub mod Canonical
 pub mod Places
+pub mod Spelling

@@ -14,6 +14,7 @@ impl Run {
     ghost use Rattle.std.specs.Prelude.{◌≡◌};
     ghost use Rattle.gtid_sets.specs.Sets.{single, in_run, before_run, joined, covers};
     ghost use Rattle.gtid_sets.specs.Canonical.{IsUuid};
+    ghost use Rattle.gtid_sets.specs.Places.{starts_by, precedes, ends_first};
 
     /// The run of one GTID.
     pub(crate) fn single(gtid: Gtid) -> Run
@@ -63,5 +64,35 @@ impl Run {
         ensures { result ≡ covers self.now other.now }
     {
         other.source == self.source && other.first <= self.first && self.last <= other.last
+    }
+
+    /// Whether it begins no later than the other one.
+    pub(crate) fn starts_by(&self, other: &Run) -> bool
+        ensures { result ≡ starts_by self.now other.now }
+    {
+        if self.source == other.source {
+            return self.first <= other.first;
+        }
+        self.source < other.source
+    }
+
+    /// Whether all of it stands before all of the other one.
+    pub(crate) fn precedes(&self, other: &Run) -> bool
+        ensures { result ≡ precedes self.now other.now }
+    {
+        if self.source == other.source {
+            return self.last < other.first;
+        }
+        self.source < other.source
+    }
+
+    /// Whether it ends before the other one does.
+    pub(crate) fn ends_first(&self, other: &Run) -> bool
+        ensures { result ≡ ends_first self.now other.now }
+    {
+        if self.source == other.source {
+            return self.last < other.last;
+        }
+        self.source < other.source
     }
 }

@@ -1,7 +1,10 @@
 // A set of GTIDs as its longest runs.
 use crate::adding::put_gtid;
+use crate::parts::{met, remaining};
 use crate::run::Run;
 use crate::search::runs_before;
+use crate::union::merged;
+use crate::whole::{counted, covered};
 use gr_ids::{Gtid, Memory};
 use std::alloc::Global;
 use std::marker::Model;
@@ -27,8 +30,8 @@ impl Model for GtidSet {
 }
 
 impl GtidSet {
-    ghost use Rattle.std.specs.Prelude.{◌≡◌, ◌↔◌, [], IsTrue, OnOk, OnErr};
-    ghost use Rattle.gtid_sets.specs.Sets.{has, with_gtid};
+    ghost use Rattle.std.specs.Prelude.{◌≡◌, ◌↔◌, [], IsTrue, IfOk, OnOk, OnErr};
+    ghost use Rattle.gtid_sets.specs.Sets.{has, with_gtid, union, meet, minus, subset, count_of};
     ghost use Rattle.gtid_sets.specs.Canonical.{IsCanonical, IsNumber};
 
     /// The empty set; takes no memory.
@@ -73,5 +76,51 @@ impl GtidSet {
         ensures err { OnErr result (self.new ≡ self.old) }
     {
         put_gtid(&mut self.runs, gtid)
+    }
+
+    /// The GTIDs that either has. Linear in the runs of both.
+    pub fn union(&self, alloc: Global, other: &GtidSet) -> Result<GtidSet, Memory>
+        ensures { IfOk result (λ set. set ≡ union self.now other.now) }
+    {
+        let runs = merged(alloc, &self.runs, &other.runs)?;
+        Ok(GtidSet { runs })
+    }
+
+    /// The GTIDs that both have. Linear in the runs of both.
+    pub fn intersect(&self, alloc: Global, other: &GtidSet) -> Result<GtidSet, Memory>
+        ensures { IfOk result (λ set. set ≡ meet self.now other.now) }
+    {
+        let runs = met(alloc, &self.runs, &other.runs)?;
+        Ok(GtidSet { runs })
+    }
+
+    /// The GTIDs that this one has and the other one hasn't. Linear in the runs of both.
+    pub fn subtract(&self, alloc: Global, other: &GtidSet) -> Result<GtidSet, Memory>
+        ensures { IfOk result (λ set. set ≡ minus self.now other.now) }
+    {
+        let runs = remaining(alloc, &self.runs, &other.runs)?;
+        Ok(GtidSet { runs })
+    }
+
+    /// Whether the other one has all that this one has. Linear in the runs of both; takes no memory.
+    pub fn is_subset(&self, other: &GtidSet) -> bool
+        ensures { result ≡ subset self.now other.now }
+    {
+        covered(&self.runs, &other.runs)
+    }
+
+    /// How many GTIDs it has. Linear in the runs; takes no memory.
+    pub fn count(&self) -> u128
+        ensures { result ≡ count_of self.now }
+    {
+        counted(&self.runs)
+    }
+
+    /// A copy. Linear in the runs.
+    pub fn try_copy(&self, alloc: Global) -> Result<GtidSet, Memory>
+        ensures { IfOk result (λ copy. copy ≡ self.now) }
+    {
+        let runs = Vec::from_slice(alloc, &self.runs)?;
+        Ok(GtidSet { runs })
     }
 }

@@ -1,3 +1,4 @@
 pub mod Log
 pub mod Values
 pub mod Turns
+pub mod TurnsInside

@@ -1,6 +1,6 @@
 -- The kept list of a log, its members, and the configurations behind the horizon.
 -- (Reconfiguration of a replicated state machine by its own commands: Lamport, Malkhi, Zhou, "Reconfiguring a State Machine".)
-use Rattle.std.specs.Prelude.{ℕ, Bool, true, ◌+◌, ◌-◌, ◌*◌, min, max, ◌&&◌, not, Option, None, List, [], ◌∷◌, ◌++◌, map, filter, fold, count_by, length, take, drop, replicate, slice_get, nat_lt, nat_le, ◌==◌, if◌then◌else◌}
+use Rattle.std.specs.Prelude.{ℕ, Bool, true, ◌+◌, ◌-◌, ◌*◌, ◌&&◌, not, Option, None, List, [], ◌∷◌, ◌++◌, map, filter, fold, count_by, length, take, drop, replicate, slice_get, nat_lt, ◌==◌, if◌then◌else◌}
 use Rattle.std.specs.List.{list_any}
 use Rattle.gr_ids.specs.declared.names.Inc.{Inc}
 use Rattle.gr_ids.specs.Names.{inc_eq, inc_lt, has_inc}
@@ -8,7 +8,6 @@ use Rattle.slot_values.specs.Values.{Value, What, Add, Remove, is_noop}
 pub use Rattle.slot_values.specs.declared.member.Member.{Member}
 pub use Rattle.slot_values.specs.declared.kept.Kept.{Kept}
 pub use Rattle.slot_values.specs.declared.kept.Kept.TheVariants.{At, Skipped}
-pub use Rattle.slot_values.specs.declared.turns_at.TurnsAt.{TurnsAt}
 
 -- What reading a log leaves: the number of kept values, the members, ascending, every incarnation that ever was one, ascending,
 -- and the removed members with their last kept numbers, the latest first.
@@ -104,41 +103,22 @@ last_of r i = last_in (r.members ++ r.former) i
 -- ---- one slot taken after another
 
 -- It has taken the slots to `slot`, and knows the configurations of the slots after `base`, to slot + H.
--- Those of slots below `low` are forgotten.
 pub record Turns : Type 0 where
   pub slot : ℕ
   pub reading : Reading
   pub base : ℕ
-  pub low : ℕ
   pub configs : List (List Inc)
 
 abbrev pub first_turns : Group → Turns
-first_turns g = record { slot = 0; reading = founded g; base = 0; low = 0; configs = replicate g.horizon g.founders }
+first_turns g = record { slot = 0; reading = founded g; base = 0; configs = replicate g.horizon g.founders }
 
 -- the next slot taken
 unfoldable pub turn : Turns → Value → Turns
-turn w v = record { slot = w.slot + 1; reading = read w.reading v; base = w.base; low = w.low; configs = w.configs ++ incs (read w.reading v).members ∷ [] }
+turn w v = record { slot = w.slot + 1; reading = read w.reading v; base = w.base; configs = w.configs ++ incs (read w.reading v).members ∷ [] }
 
 abbrev pub config_of : Turns → ℕ → Option (List Inc)
-config_of w t = if nat_lt w.base t && nat_le w.low t then slice_get w.configs (t - (w.base + 1)) else None
+config_of w t = if nat_lt w.base t then slice_get w.configs (t - (w.base + 1)) else None
 
--- The configurations of slots below k are forgotten. What is still told of them, the members after the last H slots, is kept all the same.
+-- the configurations of slots below k are forgotten
 abbrev pub forget_configs : ℕ → Turns → Turns
-forget_configs k w =
-    let d : ℕ = min (k - (w.base + 1)) (w.slot - w.base) in
-    record w { base = w.base + d; low = max k w.low; configs = drop d w.configs }
-
--- ---- what a joiner is told
-
-abbrev pub turns_at : Turns → TurnsAt
-turns_at w = record { slot = w.slot; place = w.reading.place; last = w.reading.members; ever = w.reading.ever; configs = drop (w.slot - w.base) w.configs }
-
--- the log read on from there; the removed members aren't told
-abbrev pub turns_from : TurnsAt → Turns
-turns_from x = record {
-  slot = x.slot;
-  reading = record { place = x.place; members = x.last; ever = x.ever; former = [] };
-  base = x.slot;
-  low = 0;
-  configs = x.configs;
-}
+forget_configs k w = let d : ℕ = k - (w.base + 1) in record w { base = w.base + d; configs = drop d w.configs }

@@ -4,6 +4,8 @@
 mod kept;
 mod member;
 mod reading;
+#[cfg(test)]
+mod tests;
 mod turns;
 mod turns_at;
 mod value;

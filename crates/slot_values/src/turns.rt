@@ -2,7 +2,8 @@
 ghost use Rattle.std.specs.Prelude.{◌≡◌, ◌+◌, ◌-◌, ◌<◌, ◌≤◌, ◌^◌, IfOk, MatchOption, None, OnErr, OnOk, Some, find, length, map, option_map, replicate, slice_get};
 ghost use Rattle.gr_ids.specs.Names.{inc_eq};
 ghost use Rattle.gr_ids.specs.declared.memory.Memory.{Memory};
-ghost use Rattle.slot_values.specs.Log.{Group, became, config_of, first_turns, forget_configs, incs, last_of, turn, turns_at, turns_from};
+ghost use Rattle.slot_values.specs.Log.{Group, became, first_turns, incs, last_of, turn};
+ghost use Rattle.slot_values.specs.Turns.{Taken, forgotten, known_config, resumed, told};
 
 use crate::kept::Kept;
 use crate::member::Member;
@@ -29,14 +30,16 @@ pub struct Turns {
 }
 
 impl Model for Turns {
-    ghost use Rattle.slot_values.specs.Log.{Turns as Taken};
-    ghost use Rattle.slot_values.specs.Turns.{HoldsTogether};
+    ghost use Rattle.slot_values.specs.Turns.{Taken};
 
     ghost Value = { Taken };
 
-    ghost view = { λ w. record { slot = w.slot; reading = record { place = w.place; members = w.members.items; ever = w.ever.items; former = w.former.items }; base = w.base; low = w.low; configs = w.configs.items } };
+    ghost use Rattle.slot_values.specs.TurnsInside.{taken};
+    ghost use Rattle.slot_values.specs.Turns.{HoldsTogether};
 
-    ghost invariant = { λ w. HoldsTogether (record { slot = w.slot; reading = record { place = w.place; members = w.members.items; ever = w.ever.items; former = w.former.items }; base = w.base; low = w.low; configs = w.configs.items }) };
+    ghost view = { taken };
+
+    ghost invariant = { λ w. HoldsTogether (taken w).turns };
 }
 
 impl Turns {
@@ -44,7 +47,7 @@ impl Turns {
     /// Linear in the founders times the horizon.
     pub fn new(alloc: Global, founders: &[Inc], horizon: u16) -> Result<Turns, Memory>
         requires { 0 < horizon }
-        ensures { IfOk result (λ w. w ≡ first_turns (record { founders = founders.now; horizon = horizon })) }
+        ensures { IfOk result (λ w. w ≡ record { turns = first_turns (record { founders = founders.now; horizon = horizon }); low = 0 }) }
     {
         Ok(Turns {
             slot: 0,
@@ -63,7 +66,7 @@ impl Turns {
     pub fn resume(alloc: Global, at: TurnsAt) -> Result<Turns, Memory>
         requires places { at.place ≤ at.slot }
         requires latest { slice_get at.configs (length at.configs - 1) ≡ Some (incs at.last) }
-        ensures { IfOk result (λ w. w ≡ turns_from at) }
+        ensures { IfOk result (λ w. w ≡ record { turns = resumed at; low = 0 }) }
     {
         Ok(Turns {
             slot: at.slot,
@@ -79,7 +82,7 @@ impl Turns {
 
     /// What a joiner that was added in the last slot is told. Linear in it.
     pub fn at(&self, alloc: Global) -> Result<TurnsAt, Memory>
-        ensures { IfOk result (λ x. x ≡ turns_at self.now) }
+        ensures { IfOk result (λ x. x ≡ told self.now.turns) }
     {
         let read = (self.slot - self.base) as usize;
         Ok(TurnsAt {
@@ -94,9 +97,9 @@ impl Turns {
     /// Takes the value of the next slot, and says what it becomes. Linear in the members and in the incarnations that ever were members.
     #[tactic(auto, unfolding(crate::specs::Log::turn))]
     pub fn take(&mut self, alloc: Global, value: &Value) -> Result<Kept, Memory>
-        requires { self.old.slot < 2 ^ 42 }
-        ensures ok { OnOk result (self.new ≡ turn self.old value.now) }
-        ensures kept { IfOk result (λ kept. kept ≡ became self.old.reading value.now) }
+        requires { self.old.turns.slot < 2 ^ 42 }
+        ensures ok { OnOk result (self.new ≡ record { turns = turn self.old.turns value.now; low = self.old.low }) }
+        ensures kept { IfOk result (λ kept. kept ≡ became self.old.turns.reading value.now) }
         ensures err { OnErr result (self.new ≡ self.old) }
     {
         let kept = kept_as(self.place, &self.members, &self.ever, value);
@@ -120,7 +123,7 @@ impl Turns {
 
     /// The members, ascending. Takes constant time.
     pub fn members(&self) -> &[Inc]
-        ensures { result.now ≡ incs self.now.reading.members }
+        ensures { result.now ≡ incs self.now.turns.reading.members }
     {
         match self.configs.last() {
             Some(members) => members.as_slice(),
@@ -131,7 +134,7 @@ impl Turns {
     /// The members that rule a slot: those after the slot H before it. None exactly where the slot is above the last one
     /// taken plus H, or below the first one kept. Takes constant time.
     pub fn config(&self, slot: u64) -> Option<&[Inc]>
-        ensures { option_map (λ c. c.now) result ≡ config_of self.now slot }
+        ensures { option_map (λ c. c.now) result ≡ known_config self.now slot }
     {
         if slot <= self.base || slot < self.low {
             return None;
@@ -146,7 +149,7 @@ impl Turns {
     /// The last kept number of an incarnation that is a member, or was one and was removed here; 0 for any other.
     /// Linear in the incarnations that were members.
     pub fn last(&self, inc: Inc) -> u64
-        ensures { result ≡ last_of self.now.reading inc }
+        ensures { result ≡ last_of self.now.turns.reading inc }
     {
         match last_among(&self.members, inc) {
             Some(last) => last,
@@ -156,7 +159,7 @@ impl Turns {
 
     /// Forgets the configurations of slots below `below`. Linear in those that are known; takes no memory.
     pub fn forget(&mut self, below: u64)
-        ensures { self.new ≡ forget_configs below self.old }
+        ensures { self.new ≡ forgotten below self.old }
     {
         if below > self.low {
             self.low = below;

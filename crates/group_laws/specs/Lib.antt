@@ -1,0 +1,12 @@
+pub mod Lists
+pub mod Names
+pub mod Entries
+pub mod View
+pub mod Primary
+pub mod Verdict
+pub mod Fresh
+pub mod Table
+pub mod Life
+pub mod Lawful
+pub mod World
+pub mod Laws

@@ -1,0 +1,2 @@
+//! Names as bytes.
+#![tactic(auto)]
