@@ -14,7 +14,7 @@ pub record IsItem (i : Item) : Type 0 where
   pub key_below : length i.key ≤ 255
 
 abbrev pub item_bytes : Item → List ℕ
-item_bytes i = number 1 (length i.table) ++ i.table ++ number 1 (length i.key) ++ i.key
+item_bytes i = number 1 (length i.table) ++ (i.table ++ (number 1 (length i.key) ++ i.key))
 
 -- the item is above the one before, if there is one
 abbrev pub IsItemAfter : Option Item → Item → Type 0

@@ -1,5 +1,5 @@
 -- Incarnations as bytes: the server, 1 to 32, in one byte, and the start, at least 1, in four.
-use Rattle.std.specs.Prelude.{◌≡◌, ℕ, ◌+◌, ◌≤◌, true, Option, Some, None, List, ◌++◌, ◌==◌, if◌then◌else◌}
+use Rattle.std.specs.Prelude.{◌≡◌, ℕ, ◌+◌, ◌≤◌, true, Option, Some, None, List, ◌++◌, max, ◌==◌, if◌then◌else◌}
 use Rattle.byte_forms.specs.Numbers.{number}
 use Rattle.byte_forms.specs.Reads.{Reader, ◌>>=◌, pure}
 use Rattle.byte_forms.specs.Fields.{number_in}
@@ -31,10 +31,10 @@ abbrev pub IsIncAfter : Option Inc → Inc → Type 0
 IsIncAfter None i = IsInc i
 IsIncAfter (Some b) i = IsInc i × (inc_lt b i ≡ true)
 
--- the least server that has an incarnation above this one
+-- the least server, from 1 on, that has an incarnation above this one
 abbrev pub least_server : Option Inc → ℕ
 least_server None = 1
-least_server (Some b) = if b.start == last_start then b.server + 1 else b.server
+least_server (Some b) = max 1 (if b.start == last_start then b.server + 1 else b.server)
 
 -- the least start of a server that is above this one
 abbrev pub least_start : Option Inc → ℕ → ℕ

@@ -70,7 +70,7 @@ pub record IsKeptAfter (place : ℕ) (before : Option KeptItem) (x : KeptItem) :
   pub place_below : x.place ≤ place
 
 abbrev pub kept_bytes : KeptItem → List ℕ
-kept_bytes x = item_bytes x.item ++ gtid_bytes x.gtid ++ number 8 x.place
+kept_bytes x = item_bytes x.item ++ (gtid_bytes x.gtid ++ number 8 x.place)
 
 unfoldable pub next_kept_after : ℕ → Option KeptItem → Reader KeptItem
 next_kept_after place before = do
@@ -112,7 +112,7 @@ pub record IsGivenAfter (place : ℕ) (before : Option Given) (x : Given) : Type
   pub body : length x.body ≤ last_u32
 
 abbrev pub given_bytes : Given → List ℕ
-given_bytes x = number 8 x.place ++ inc_bytes x.origin ++ gtid_bytes x.gtid ++ counted x.body
+given_bytes x = number 8 x.place ++ (inc_bytes x.origin ++ (gtid_bytes x.gtid ++ counted x.body))
 
 unfoldable pub next_given_after : ℕ → Option Given → Reader Given
 next_given_after place before = do
@@ -137,7 +137,7 @@ pub record IsOpenAfter (before : Option OpenParts) (x : OpenParts) : Type 0 wher
   pub bytes : length x.bytes ≡ 65523 * x.held
 
 abbrev pub parts_bytes : OpenParts → List ℕ
-parts_bytes x = inc_bytes x.origin ++ number 4 x.count ++ number 4 x.held ++ counted x.bytes
+parts_bytes x = inc_bytes x.origin ++ (number 4 x.count ++ (number 4 x.held ++ counted x.bytes))
 
 unfoldable pub next_parts_after : Option OpenParts → Reader OpenParts
 next_parts_after before = do

@@ -65,7 +65,7 @@ pub record IsMemberAfter (place : ℕ) (before : Option WelcomeMember) (m : Welc
   pub last : m.last ≤ place
 
 abbrev pub member_bytes : WelcomeMember → List ℕ
-member_bytes m = joiner_bytes m.joiner ++ number 1 (state_number m.state) ++ number 8 m.last
+member_bytes m = joiner_bytes m.joiner ++ (number 1 (state_number m.state) ++ number 8 m.last)
 
 unfoldable pub next_member_after : ℕ → Option WelcomeMember → Reader WelcomeMember
 next_member_after place before = do

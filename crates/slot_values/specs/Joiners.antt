@@ -21,7 +21,7 @@ abbrev pub IsJoiner : Joiner → Type 0
 IsJoiner j = IsJoinerAfter None j
 
 abbrev pub joiner_bytes : Joiner → List ℕ
-joiner_bytes j = inc_bytes j.inc ++ j.uuid ++ flat_map (number 8) j.version ++ number 1 j.weight
+joiner_bytes j = inc_bytes j.inc ++ (j.uuid ++ (flat_map (number 8) j.version ++ number 1 j.weight))
 
 unfoldable pub next_joiner_after : Option Inc → Reader Joiner
 next_joiner_after before = do

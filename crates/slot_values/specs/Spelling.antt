@@ -68,7 +68,7 @@ pub record IsVoteAfter (before : Option Vote) (x : Vote) : Type 0 where
   pub value : IsValue x.value
 
 abbrev pub vote_bytes : Vote → List ℕ
-vote_bytes x = number 8 x.slot ++ ballot_bytes x.ballot ++ value_bytes x.value
+vote_bytes x = number 8 x.slot ++ (ballot_bytes x.ballot ++ value_bytes x.value)
 
 unfoldable pub next_vote_after : Option Vote → Reader Vote
 next_vote_after before = do

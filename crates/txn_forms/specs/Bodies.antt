@@ -25,7 +25,7 @@ flag true = 1
 flag false = 0
 
 abbrev pub txn_bytes : Txn → List ℕ
-txn_bytes t = number 1 (flag t.after) ++ set_bytes t.snapshot ++ several item_bytes t.items ++ several (change_bytes t.items) t.changes
+txn_bytes t = number 1 (flag t.after) ++ (set_bytes t.snapshot ++ (several item_bytes t.items ++ several (change_bytes t.items) t.changes))
 
 unfoldable pub next_txn : Reader Txn
 next_txn = do
@@ -59,7 +59,7 @@ abbrev pub most_parts : ℕ
 most_parts = 257
 
 abbrev pub part_bytes : Part → List ℕ
-part_bytes p = number 4 p.index ++ number 4 p.count ++ counted p.bytes
+part_bytes p = number 4 p.index ++ (number 4 p.count ++ counted p.bytes)
 
 unfoldable pub next_part : Reader Part
 next_part = do
