@@ -86,6 +86,7 @@ fn least_server(before: Option<Inc>) -> u8
 
 // The least start of a server that is above this one.
 fn least_start(before: Option<Inc>, server: u8) -> u32
+    requires { least_server_of before ≤ server }
     ensures { result ≡ least_start_of before server }
 {
     match before {

@@ -1,2 +1,0 @@
--- The two sides of the form of items.
-use Rattle.std.proofs.Common.{◌≡◌}
