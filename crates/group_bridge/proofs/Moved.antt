@@ -54,7 +54,7 @@ use Rattle.group_rules.specs.Welcomes.{hear_welcome}
 use Rattle.group_rules.specs.Recovery.{fail_ask, check_donor, check_ask, unless_self, ask_wire, ask_donor, donor_failed, give_at, restore, take_give, hear_give, pending_ask, certs_given}
 use Rattle.group_rules.specs.Points.{commit_all, prepare_all, begin_all, arrive, point, commit_one, answer_own, answer_commit, prepare_one, begin_one, begin_by, unless_pending}
 use Rattle.group_rules.specs.Taking.{answer_conflict, on_conflict, propose}
-use Rattle.group_rules.specs.Steps.{hear_add, hear_offer, done_of, time_out, time_out_by, expel_one, campaign_if_due, look_after, tell_at, member_tick, tick_on, tick_once, add_of, reply_ballot, reply_sent, if_online, leave, operate, held_mark}
+use Rattle.group_rules.specs.Steps.{hear_add, done_of, time_out, time_out_by, expel_one, campaign_if_due, look_after, tell_at, member_tick, tick_on, tick_once, add_of, reply_ballot, reply_sent, if_online, leave, operate, held_mark}
 use Rattle.group_bridge.specs.Moves.{Moves, Stays, Leaves, Sends, Acts, Makes, Then}
 
 inc_same : (i : Inc) → inc_eq i i ≡ true
@@ -289,12 +289,9 @@ moves_hear_add Noop a = Stays a
 moves_hear_add (Remove i) a = Stays a
 moves_hear_add (Says b) a = Stays a
 
-moves_hear_offer : (v : Value) (a : Member) → Moves a (hear_offer v a)
-moves_hear_offer v a = either _ (moves_hear_add v.what a) (Stays a)
-
 -- what a message does beside its row at the node
-pub moves_after_offer : (v : Value) (a : Member) → Moves a (hear_offer v a)
-moves_after_offer v a = moves_hear_offer v a
+pub moves_after_add : (w : What) (a : Member) → Moves a (hear_add w a)
+moves_after_add w a = moves_hear_add w a
 
 pub moves_after_welcome : (w : Welcome) (a : Member) → Moves a (hear_welcome w a)
 moves_after_welcome w a = moves_hear_welcome w a

@@ -1,7 +1,7 @@
 -- Taking a slot is an act of the node, with the Welcome that it causes; and so is a whole step.
 use Rattle.std.proofs.Common.{◌≡◌, inl, inr, ℕ, zero, suc, Bool, true, false, Option, Some, None, List, [], ◌∷◌, ◌++◌, refl, sym, ap, subst, ◌∙◌}
 use Rattle.std.proofs.lemmas.Bool.{false≢true}
-use Rattle.std.specs.Prelude.{◌^◌, ◌&&◌, not, flat_map, if◌then◌else◌}
+use Rattle.std.specs.Prelude.{◌^◌, ◌==◌, ◌&&◌, not, flat_map, if◌then◌else◌}
 use Rattle.gr_ids.specs.Names.{inc_eq}
 use Rattle.gr_ids.specs.declared.names.Inc.{Inc}
 use Rattle.gr_ids.specs.declared.levels.MemberState.TheVariants.{Online}
@@ -34,12 +34,13 @@ use Rattle.group_rules.specs.Events.{Did, Took, Skips, Is, Came, Replied, Entry,
 use Rattle.group_rules.specs.Life.{state, is_up, is_error, view}
 use Rattle.group_rules.specs.Member.{Member, push, by_node, at_node, fall}
 use Rattle.group_rules.specs.Parts.{open_parts, held}
+use Rattle.group_rules.specs.Recovery.{check_ask}
 use Rattle.group_rules.specs.Welcomes.{greet_by}
 use Rattle.group_rules.specs.Points.{point}
 use Rattle.group_rules.specs.Taking.{entry_of, effect_of, on_plain, causes, take_kept, take_slot, next_slot, takes_slots, take_slots, propose, rounds, settle_slots}
-use Rattle.group_rules.specs.Steps.{hear_wire, hear_in_error, act_alive, act_in_error, act, held_mark, step}
-use Rattle.group_bridge.specs.Moves.{slots_of, slots_taken, Moves, Stays, Leaves, Reads, Then, cleared, Begins}
-use Rattle.group_bridge.proofs.Moved.{moves_fall, moves_on_conflict, moves_point, moves_propose, moves_after_offer, moves_after_welcome, moves_after_other, moves_ask, moves_give, moves_tick_once, moves_work, moves_session, moves_operator, moves_held}
+use Rattle.group_rules.specs.Steps.{hear_add, hear_offer, hear_wire, hear_in_error, act_alive, act_in_error, act, held_mark, step}
+use Rattle.group_bridge.specs.Moves.{is_apart, slots_of, slots_taken, Moves, Stays, Leaves, Reads, Then, cleared, Begins}
+use Rattle.group_bridge.proofs.Moved.{moves_fall, moves_on_conflict, moves_point, moves_propose, moves_after_add, moves_after_welcome, moves_after_other, moves_ask, moves_give, moves_tick_once, moves_work, moves_session, moves_operator, moves_held}
 
 -- ---- lists
 
@@ -259,54 +260,64 @@ pub record Stepped (e : Event) (a c : Member) : Type 0 where
 quietly : (e : Event) (a c : Member) → Moves (cleared a) c → Stepped e a c
 quietly e a c p = record { begin = cleared a; begins = inl refl; moves = p }
 
-hearing : (m : Message) (a c : Member) → Moves (at_node (Heard m) (cleared a)) c → Stepped (Hears m) a c
-hearing m a c p = record { begin = at_node (Heard m) (cleared a); begins = inr (m, refl, refl); moves = p }
+hearing : (m : Message) (a c : Member) → is_apart m.wire ≡ false → Moves (at_node (Heard m) (cleared a)) c → Stepped (Hears m) a c
+hearing m a c h p = record { begin = at_node (Heard m) (cleared a); begins = inr (m, refl, h, refl); moves = p }
 
 came : (e : Event) (a : Member) → Moves (cleared a) (push (Came e) (cleared a))
 came e a = Leaves (Came e) (cleared a) refl
 
 -- the node hears the message, and then the member moves
-heard_steps : (m : Message) (a c : Member) → Moves (push (Came (Hears m)) (at_node (Heard m) (cleared a))) c → Stepped (Hears m) a c
-heard_steps m a c p = hearing m a c (Then (Leaves (Came (Hears m)) (at_node (Heard m) (cleared a)) refl) p)
+heard_steps : (m : Message) (a c : Member) → is_apart m.wire ≡ false → Moves (push (Came (Hears m)) (at_node (Heard m) (cleared a))) c → Stepped (Hears m) a c
+heard_steps m a c h p = hearing m a c h (Then (Leaves (Came (Hears m)) (at_node (Heard m) (cleared a)) refl) p)
 
-hear_steps : (m : Message) (x : Wire) (a : Member) → Stepped (Hears m) a (hear_wire m x (push (Came (Hears m)) (cleared a)))
-hear_steps m (Asks x) a = quietly (Hears m) a _ (Then (came (Hears m) a) (moves_ask m.from x.place x.executed (push (Came (Hears m)) (cleared a))))
-hear_steps m (Gives g) a = quietly (Hears m) a _ (Then (came (Hears m) a) (moves_give m.from g (push (Came (Hears m)) (cleared a))))
-hear_steps m Gone a = heard_steps m a _ (moves_fall WasGone (at_node (Heard m) (push (Came (Hears m)) (cleared a))))
-hear_steps m (Greet w) a = heard_steps m a _ (moves_after_welcome w (at_node (Heard m) (push (Came (Hears m)) (cleared a))))
-hear_steps m (Offer v) a = heard_steps m a _ (moves_after_offer v (at_node (Heard m) (push (Came (Hears m)) (cleared a))))
-hear_steps m (Prepare b s) a = heard_steps m a _ (moves_after_other (at_node (Heard m) (push (Came (Hears m)) (cleared a))))
-hear_steps m (Promise b s xs) a = heard_steps m a _ (moves_after_other (at_node (Heard m) (push (Came (Hears m)) (cleared a))))
-hear_steps m (Accept b t v) a = heard_steps m a _ (moves_after_other (at_node (Heard m) (push (Came (Hears m)) (cleared a))))
-hear_steps m (Accepted b t) a = heard_steps m a _ (moves_after_other (at_node (Heard m) (push (Came (Hears m)) (cleared a))))
-hear_steps m (Learn t v) a = heard_steps m a _ (moves_after_other (at_node (Heard m) (push (Came (Hears m)) (cleared a))))
-hear_steps m (Alive n) a = heard_steps m a _ (moves_after_other (at_node (Heard m) (push (Came (Hears m)) (cleared a))))
+offer_steps : (m : Message) (v : Value) (a : Member) → m.wire ≡ Offer v → Stepped (Hears m) a (hear_offer m v (push (Came (Hears m)) (cleared a)))
+offer_steps m v a e = go (v.id.number == 0) refl
+  where
+    go : (b : Bool) → (v.id.number == 0) ≡ b → Stepped (Hears m) a (elim b [ true ↦ hear_add v.what (push (Came (Hears m)) (cleared a)) | false ↦ at_node (Heard m) (push (Came (Hears m)) (cleared a)) ])
+    go true h = quietly (Hears m) a _ (Then (came (Hears m) a) (moves_after_add v.what (push (Came (Hears m)) (cleared a))))
+    go false h = heard_steps m a _ (ap is_apart e ∙ h) (Stays (at_node (Heard m) (push (Came (Hears m)) (cleared a))))
+
+other_steps : (m : Message) (a : Member) → is_apart m.wire ≡ false → Stepped (Hears m) a (check_ask (at_node (Heard m) (push (Came (Hears m)) (cleared a))))
+other_steps m a h = heard_steps m a _ h (moves_after_other (at_node (Heard m) (push (Came (Hears m)) (cleared a))))
+
+hear_steps : (m : Message) (x : Wire) (a : Member) → m.wire ≡ x → Stepped (Hears m) a (hear_wire m x (push (Came (Hears m)) (cleared a)))
+hear_steps m (Asks x) a e = quietly (Hears m) a _ (Then (came (Hears m) a) (moves_ask m.from x.place x.executed (push (Came (Hears m)) (cleared a))))
+hear_steps m (Gives g) a e = quietly (Hears m) a _ (Then (came (Hears m) a) (moves_give m.from g (push (Came (Hears m)) (cleared a))))
+hear_steps m Gone a e = heard_steps m a _ (ap is_apart e) (moves_fall WasGone (at_node (Heard m) (push (Came (Hears m)) (cleared a))))
+hear_steps m (Greet w) a e = heard_steps m a _ (ap is_apart e) (moves_after_welcome w (at_node (Heard m) (push (Came (Hears m)) (cleared a))))
+hear_steps m (Offer v) a e = offer_steps m v a e
+hear_steps m (Prepare b s) a e = other_steps m a (ap is_apart e)
+hear_steps m (Promise b s xs) a e = other_steps m a (ap is_apart e)
+hear_steps m (Accept b t v) a e = other_steps m a (ap is_apart e)
+hear_steps m (Accepted b t) a e = other_steps m a (ap is_apart e)
+hear_steps m (Learn t v) a e = other_steps m a (ap is_apart e)
+hear_steps m (Alive n) a e = other_steps m a (ap is_apart e)
 
 act_alive_steps : (e : Event) (a : Member) → Stepped e a (act_alive e (push (Came e) (cleared a)))
-act_alive_steps (Hears m) a = hear_steps m m.wire a
+act_alive_steps (Hears m) a = hear_steps m m.wire a refl
 act_alive_steps Ticks a = quietly Ticks a _ (Then (came Ticks a) (moves_tick_once (push (Came Ticks) (cleared a))))
 act_alive_steps (Works p b) a = quietly (Works p b) a _ (Then (came (Works p b) a) (moves_work p b (push (Came (Works p b)) (cleared a))))
 act_alive_steps (Calls s r) a = quietly (Calls s r) a _ (Then (came (Calls s r) a) (moves_session s r (push (Came (Calls s r)) (cleared a))))
 act_alive_steps (Operates o) a = quietly (Operates o) a _ (Then (came (Operates o) a) (moves_operator o (push (Came (Operates o)) (cleared a))))
 
-heard_in_error : (m : Message) (a : Member) → Stepped (Hears m) a (at_node (Heard m) (push (Came (Hears m)) (cleared a)))
-heard_in_error m a = hearing m a _ (Leaves (Came (Hears m)) (at_node (Heard m) (cleared a)) refl)
+heard_in_error : (m : Message) (a : Member) → is_apart m.wire ≡ false → Stepped (Hears m) a (at_node (Heard m) (push (Came (Hears m)) (cleared a)))
+heard_in_error m a h = heard_steps m a _ h (Stays (at_node (Heard m) (push (Came (Hears m)) (cleared a))))
 
-hear_in_error_steps : (m : Message) (x : Wire) (a : Member) → Stepped (Hears m) a (hear_in_error m x (cleared a))
-hear_in_error_steps m (Prepare b s) a = heard_in_error m a
-hear_in_error_steps m (Accept b t v) a = heard_in_error m a
-hear_in_error_steps m Gone a = quietly (Hears m) a _ (Stays (cleared a))
-hear_in_error_steps m (Greet w) a = quietly (Hears m) a _ (Stays (cleared a))
-hear_in_error_steps m (Offer v) a = quietly (Hears m) a _ (Stays (cleared a))
-hear_in_error_steps m (Asks x) a = quietly (Hears m) a _ (Stays (cleared a))
-hear_in_error_steps m (Gives g) a = quietly (Hears m) a _ (Stays (cleared a))
-hear_in_error_steps m (Promise b s xs) a = quietly (Hears m) a _ (Stays (cleared a))
-hear_in_error_steps m (Accepted b t) a = quietly (Hears m) a _ (Stays (cleared a))
-hear_in_error_steps m (Learn t v) a = quietly (Hears m) a _ (Stays (cleared a))
-hear_in_error_steps m (Alive n) a = quietly (Hears m) a _ (Stays (cleared a))
+hear_in_error_steps : (m : Message) (x : Wire) (a : Member) → m.wire ≡ x → Stepped (Hears m) a (hear_in_error m x (cleared a))
+hear_in_error_steps m (Prepare b s) a e = heard_in_error m a (ap is_apart e)
+hear_in_error_steps m (Accept b t v) a e = heard_in_error m a (ap is_apart e)
+hear_in_error_steps m Gone a e = quietly (Hears m) a _ (Stays (cleared a))
+hear_in_error_steps m (Greet w) a e = quietly (Hears m) a _ (Stays (cleared a))
+hear_in_error_steps m (Offer v) a e = quietly (Hears m) a _ (Stays (cleared a))
+hear_in_error_steps m (Asks x) a e = quietly (Hears m) a _ (Stays (cleared a))
+hear_in_error_steps m (Gives g) a e = quietly (Hears m) a _ (Stays (cleared a))
+hear_in_error_steps m (Promise b s xs) a e = quietly (Hears m) a _ (Stays (cleared a))
+hear_in_error_steps m (Accepted b t) a e = quietly (Hears m) a _ (Stays (cleared a))
+hear_in_error_steps m (Learn t v) a e = quietly (Hears m) a _ (Stays (cleared a))
+hear_in_error_steps m (Alive n) a e = quietly (Hears m) a _ (Stays (cleared a))
 
 act_in_error_steps : (e : Event) (a : Member) → Stepped e a (act_in_error e (cleared a))
-act_in_error_steps (Hears m) a = hear_in_error_steps m m.wire a
+act_in_error_steps (Hears m) a = hear_in_error_steps m m.wire a refl
 act_in_error_steps Ticks a = quietly Ticks a _ (Stays (cleared a))
 act_in_error_steps (Works p b) a = quietly (Works p b) a _ (Leaves (Replied (NotQueued p)) (cleared a) refl)
 act_in_error_steps (Calls s r) a = quietly (Calls s r) a _ (Then (came (Calls s r) a) (moves_session s r (push (Came (Calls s r)) (cleared a))))

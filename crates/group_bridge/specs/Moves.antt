@@ -55,9 +55,9 @@ pub data Moves : Member → Member → Type 0 where
 abbrev pub cleared : Member → Member
 cleared a = record a { sent = [] }
 
--- the member that has heard a message, if one came that its node hears
+-- the member that has heard a message, if one came that is its node's
 abbrev pub Begins : Event → Member → Member → Type 0
-Begins e a b = (b ≡ cleared a) ⊎ ((m : Message) × (e ≡ Hears m) × (b ≡ at_node (Heard m) (cleared a)))
+Begins e a b = (b ≡ cleared a) ⊎ ((m : Message) × (e ≡ Hears m) × (is_apart m.wire ≡ false) × (b ≡ at_node (Heard m) (cleared a)))
 
 -- What a list of acts makes of a member: its node is theirs, each message is there before, theirs, or one that isn't the node's. Its history grows: each
 -- slot that it has taken is taken by the acts, and each value that they make is made in it.

@@ -28,16 +28,16 @@ abbrev pub hear_add : What → Member → Member
 hear_add (Add j) a = elim (is_up (state a.life)) [ true ↦ own (Add j) None a | false ↦ a ]
 hear_add w a = a
 
-abbrev pub hear_offer : Value → Member → Member
-hear_offer v a = elim (v.id.number == 0) [ true ↦ hear_add v.what a | false ↦ a ]
+abbrev pub hear_offer : Message → Value → Member → Member
+hear_offer m v a = elim (v.id.number == 0) [ true ↦ hear_add v.what a | false ↦ at_node (Heard m) a ]
 
--- An Ask and a Give are the member's; every other message is heard by its node first.
+-- An Ask, a Give and an Add without a number are the member's; every other message is heard by its node first.
 abbrev pub hear_wire : Message → Wire → Member → Member
 hear_wire m (Asks x) a = hear_ask m.from x.place x.executed a
 hear_wire m (Gives g) a = hear_give m.from g a
 hear_wire m Gone a = fall WasGone (at_node (Heard m) a)
 hear_wire m (Greet w) a = hear_welcome w (at_node (Heard m) a)
-hear_wire m (Offer v) a = hear_offer v (at_node (Heard m) a)
+hear_wire m (Offer v) a = hear_offer m v a
 hear_wire m x a = check_ask (at_node (Heard m) a)
 
 -- ---- a worker's result

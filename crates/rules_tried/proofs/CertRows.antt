@@ -208,3 +208,81 @@ conflict_named_by_place_text : full conflict_named_by_place ≡
     []
 unfolding by_index full run apply plays move settle drain step found start call point settle_slots read turn node_step hear hear_prepare hear_accept hear_learn hear_promise hear_accepted propose_one own_value hear_offer campaign hear_alive tick take hear_welcome forget
 conflict_named_by_place_text = refl
+
+-- a conflict names the last writer of the item, not the first
+abbrev conflict_with_the_last_writer : List Step
+conflict_with_the_last_writer =
+    Found group Multi 10 5 0 (1 ∷ 2 ∷ 3 ∷ []) ∷
+    Session 3 9 (Begin Eventual 9) ∷
+    Session 3 9 (Insert (item (codes "t") (codes "a")) (codes "0")) ∷
+    once 4 1 (item (codes "t") (codes "a")) (Inserts (codes "1")) ∷
+    Settle [] ∷
+    once 6 1 (item (codes "t") (codes "a")) (Updates (codes "2")) ∷
+    Settle [] ∷
+    Session 3 9 Commit ∷
+    Settle [] ∷
+    []
+
+conflict_with_the_last_writer_text : full conflict_with_the_last_writer ≡
+    codes "1 1.1 state ONLINE" ∷
+    codes "1 2.1 state ONLINE" ∷
+    codes "1 3.1 state ONLINE" ∷
+    codes "2 3.1 answer 9 begun -" ∷
+    codes "3 3.1 answer 9 changed" ∷
+    codes "4 1.1 answer o4 begun -" ∷
+    codes "4 1.1 answer o4 changed" ∷
+    codes "4 1.1 answer o4 sent 1.1#1" ∷
+    codes "5 1.1 took 1 1.1#1 txn positive aaaaaaaa-aaaa-aaaa-aaaa-aaaaaaaaaaaa:1" ∷
+    codes "5 1.1 committed aaaaaaaa-aaaa-aaaa-aaaa-aaaaaaaaaaaa:1" ∷
+    codes "5 1.1 answer o4 committed aaaaaaaa-aaaa-aaaa-aaaa-aaaaaaaaaaaa:1" ∷
+    codes "5 2.1 took 1 1.1#1 txn positive aaaaaaaa-aaaa-aaaa-aaaa-aaaaaaaaaaaa:1" ∷
+    codes "5 3.1 took 1 1.1#1 txn positive aaaaaaaa-aaaa-aaaa-aaaa-aaaaaaaaaaaa:1" ∷
+    codes "6 1.1 answer o6 begun aaaaaaaa-aaaa-aaaa-aaaa-aaaaaaaaaaaa:1" ∷
+    codes "6 1.1 answer o6 changed" ∷
+    codes "6 1.1 answer o6 sent 1.1#2" ∷
+    codes "7 1.1 took 2 1.1#2 txn positive aaaaaaaa-aaaa-aaaa-aaaa-aaaaaaaaaaaa:2" ∷
+    codes "7 1.1 committed aaaaaaaa-aaaa-aaaa-aaaa-aaaaaaaaaaaa:2" ∷
+    codes "7 1.1 answer o6 committed aaaaaaaa-aaaa-aaaa-aaaa-aaaaaaaaaaaa:2" ∷
+    codes "7 2.1 took 2 1.1#2 txn positive aaaaaaaa-aaaa-aaaa-aaaa-aaaaaaaaaaaa:2" ∷
+    codes "7 3.1 took 2 1.1#2 txn positive aaaaaaaa-aaaa-aaaa-aaaa-aaaaaaaaaaaa:2" ∷
+    codes "8 3.1 answer 9 sent 3.1#1" ∷
+    codes "9 1.1 took 3 3.1#1 txn conflict aaaaaaaa-aaaa-aaaa-aaaa-aaaaaaaaaaaa:2" ∷
+    codes "9 2.1 took 3 3.1#1 txn conflict aaaaaaaa-aaaa-aaaa-aaaa-aaaaaaaaaaaa:2" ∷
+    codes "9 3.1 took 3 3.1#1 txn conflict aaaaaaaa-aaaa-aaaa-aaaa-aaaaaaaaaaaa:2" ∷
+    codes "9 3.1 answer 9 conflict aaaaaaaa-aaaa-aaaa-aaaa-aaaaaaaaaaaa:2" ∷
+    []
+unfolding by_index full run apply plays move settle drain step found start call point settle_slots read turn node_step hear hear_prepare hear_accept hear_learn hear_promise hear_accepted propose_one own_value hear_offer campaign hear_alive tick take hear_welcome forget
+conflict_with_the_last_writer_text = refl
+
+-- an item is kept until all members have told its writer
+abbrev kept_until_all_have_told : List Step
+kept_until_all_have_told =
+    Found group Multi 10 5 0 (1 ∷ 2 ∷ 3 ∷ []) ∷
+    once 2 1 (item (codes "t") (codes "a")) (Inserts (codes "1")) ∷
+    Settle [] ∷
+    Operate 1 Tell ∷
+    Settle [] ∷
+    ShowCertifier 1 ∷
+    []
+
+kept_until_all_have_told_text : full kept_until_all_have_told ≡
+    codes "1 1.1 state ONLINE" ∷
+    codes "1 2.1 state ONLINE" ∷
+    codes "1 3.1 state ONLINE" ∷
+    codes "2 1.1 answer o2 begun -" ∷
+    codes "2 1.1 answer o2 changed" ∷
+    codes "2 1.1 answer o2 sent 1.1#1" ∷
+    codes "3 1.1 took 1 1.1#1 txn positive aaaaaaaa-aaaa-aaaa-aaaa-aaaaaaaaaaaa:1" ∷
+    codes "3 1.1 committed aaaaaaaa-aaaa-aaaa-aaaa-aaaaaaaaaaaa:1" ∷
+    codes "3 1.1 answer o2 committed aaaaaaaa-aaaa-aaaa-aaaa-aaaaaaaaaaaa:1" ∷
+    codes "3 2.1 took 1 1.1#1 txn positive aaaaaaaa-aaaa-aaaa-aaaa-aaaaaaaaaaaa:1" ∷
+    codes "3 3.1 took 1 1.1#1 txn positive aaaaaaaa-aaaa-aaaa-aaaa-aaaaaaaaaaaa:1" ∷
+    codes "4 1.1 reply sent 1.1#2" ∷
+    codes "5 1.1 took 2 1.1#2 executed aaaaaaaa-aaaa-aaaa-aaaa-aaaaaaaaaaaa:1" ∷
+    codes "5 2.1 took 2 1.1#2 executed aaaaaaaa-aaaa-aaaa-aaaa-aaaaaaaaaaaa:1" ∷
+    codes "5 3.1 took 2 1.1#2 executed aaaaaaaa-aaaa-aaaa-aaaa-aaaaaaaaaaaa:1" ∷
+    codes "6 1.1 item t a aaaaaaaa-aaaa-aaaa-aaaa-aaaaaaaaaaaa:1" ∷
+    codes "6 1.1 items 1" ∷
+    []
+unfolding by_index full run apply plays move settle drain step found start call point settle_slots read turn node_step hear hear_prepare hear_accept hear_learn hear_promise hear_accepted propose_one own_value hear_offer campaign hear_alive tick take hear_welcome forget
+kept_until_all_have_told_text = refl
