@@ -99,3 +99,39 @@ counted_form low high = record {
         count.parts ∙ ap (λ ys. number 4 f.first ++ ys) all.1 ∙ ap (λ n. number 4 n ++ (xs ++ rest)) (sym is) ∙ sym (append_assoc (number 4 (length xs)) xs rest),
       ));
 }
+
+-- ---- one form behind another
+
+-- the first of two forms in bytes from which the second one's value was read
+pub record Step {A B : Type 0} (Fits : A → Type 0) (spelling : A → List ℕ) (next : A → Reader B) (bytes : List ℕ) (y : B) (rest : List ℕ) : Type 0 where
+  pub first : A
+  pub behind : List ℕ
+  pub fits : Fits first
+  pub parts : bytes ≡ spelling first ++ behind
+  pub then_reads : next first behind ≡ Got y rest
+
+pub step : {A B : Type 0} {Fits : A → Type 0} {spelling : A → List ℕ} {read : Reader A} → IsForm Fits spelling read → (next : A → Reader B) (bytes rest : List ℕ) (y : B) → (read >>= next) bytes ≡ Got y rest → Step Fits spelling next bytes y rest
+step {read = read} form next bytes rest y e =
+    let f = go_on-got (read bytes) next y rest e in
+    let s = form.spells bytes f.behind f.first f.reads in
+    record { first = f.first; behind = f.behind; fits = s.0; parts = s.1; then_reads = f.then_reads }
+
+-- the value that was put together
+pub ends : {A : Type 0} (P : A → List ℕ → Type 0) (x y : A) (a b : List ℕ) → pure x a ≡ Got y b → P x a → P y b
+ends {A} P x y a b e p =
+    let g : Got x a ≡ Got y b = e in
+    let value : x ≡ y = cc in
+    let same : a ≡ b = cc in
+    subst (λ (bs : List ℕ). P y bs) same (subst (λ (z : A). P z a) value p)
+
+-- two spellings, one behind the other
+pub glue : (bytes s b t c : List ℕ) → bytes ≡ s ++ b → b ≡ t ++ c → bytes ≡ (s ++ t) ++ c
+glue bytes s b t c p q = p ∙ ap (λ xs. s ++ xs) q ∙ sym (append_assoc s t c)
+
+-- a form is read from its spelling, and the next one from what follows
+pub reads_on : {A B : Type 0} {Fits : A → Type 0} {spelling : A → List ℕ} {read : Reader A} → IsForm Fits spelling read → (next : A → Reader B) (x : A) (more rest : List ℕ) → Fits x → (read >>= next) ((spelling x ++ more) ++ rest) ≡ next x (more ++ rest)
+reads_on {spelling = spelling} {read = read} form next x more rest fits =
+    ap (λ bs. go_on (read bs) next) (append_assoc (spelling x) more rest) ∙ ap (λ r. go_on r next) (form.reads x (more ++ rest) fits)
+
+pub reads_last : {A B : Type 0} {Fits : A → Type 0} {spelling : A → List ℕ} {read : Reader A} → IsForm Fits spelling read → (next : A → Reader B) (x : A) (rest : List ℕ) → Fits x → (read >>= next) (spelling x ++ rest) ≡ next x rest
+reads_last {read = read} form next x rest fits = ap (λ r. go_on r next) (form.reads x rest fits)

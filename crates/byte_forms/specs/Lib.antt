@@ -6,3 +6,4 @@ pub mod Forms
 pub mod Cuts
 pub mod CutFaults
 pub mod Packs
+pub mod Unreads

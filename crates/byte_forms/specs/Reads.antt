@@ -1,5 +1,5 @@
 -- Reading a form at the front of some bytes.
-use Rattle.std.specs.Prelude.{ℕ, suc, List, [], ◌∷◌, length}
+use Rattle.std.specs.Prelude.{ℕ, suc, Option, Some, None, List, [], ◌∷◌, length}
 
 pub data Read (A : Type 0) : Type 0 where
   -- the value, and the bytes behind its spelling
@@ -32,3 +32,8 @@ at_end x (b ∷ bytes) = Fault (suc (length bytes))
 -- a form that is all of the bytes
 abbrev pub whole : {A : Type 0} → Reader A → Reader A
 whole read = read >>= at_end
+
+-- the value, if one was read
+abbrev pub value_of : {A : Type 0} → Read A → Option A
+value_of (Got x rest) = Some x
+value_of (Fault left) = None

@@ -1,5 +1,5 @@
 // Bytes that are cut from the front.
-ghost use Rattle.std.specs.Prelude.{◌≡◌, ◌<◌, ◌+◌, ◌-◌, ◌++◌, [], length, IfOk, IfErr, OnErr, MatchResult};
+ghost use Rattle.std.specs.Prelude.{◌≡◌, ◌<◌, ◌≤◌, ◌+◌, ◌-◌, ◌++◌, [], length, IfOk, IfErr, OnErr, MatchResult};
 ghost use Rattle.byte_forms.specs.Numbers.{number};
 ghost use Rattle.byte_forms.specs.Fields.{word, number_in};
 ghost use Rattle.byte_forms.specs.Cuts.{Takes, FaultsAt};
@@ -110,6 +110,7 @@ impl<'a> Cutter<'a> {
     /// The number of the next byte, from `low` to `high`, refused at the first byte with which no such number begins.
     pub fn take_u8_in(&mut self, low: u8, high: u8) -> Result<u8, Misfit>
         ensures ok { IfOk result (λ n. Takes (number_in 1 low high) self.old n self.new) }
+        ensures range { IfOk result (λ n. (low ≤ n) × (n ≤ high)) }
         ensures misfit { IfErr result (λ e. FaultsAt (number_in 1 low high) self.old e.at) }
         ensures err { OnErr result (self.new ≡ self.old) }
     {
@@ -127,6 +128,7 @@ impl<'a> Cutter<'a> {
     /// The number of the next two bytes, from `low` to `high`, refused at the first byte with which no such number begins.
     pub fn take_u16_in(&mut self, low: u16, high: u16) -> Result<u16, Misfit>
         ensures ok { IfOk result (λ n. Takes (number_in 2 low high) self.old n self.new) }
+        ensures range { IfOk result (λ n. (low ≤ n) × (n ≤ high)) }
         ensures misfit { IfErr result (λ e. FaultsAt (number_in 2 low high) self.old e.at) }
         ensures err { OnErr result (self.new ≡ self.old) }
     {
@@ -144,6 +146,7 @@ impl<'a> Cutter<'a> {
     /// The number of the next four bytes, from `low` to `high`, refused at the first byte with which no such number begins.
     pub fn take_u32_in(&mut self, low: u32, high: u32) -> Result<u32, Misfit>
         ensures ok { IfOk result (λ n. Takes (number_in 4 low high) self.old n self.new) }
+        ensures range { IfOk result (λ n. (low ≤ n) × (n ≤ high)) }
         ensures misfit { IfErr result (λ e. FaultsAt (number_in 4 low high) self.old e.at) }
         ensures err { OnErr result (self.new ≡ self.old) }
     {
@@ -161,6 +164,7 @@ impl<'a> Cutter<'a> {
     /// The number of the next eight bytes, from `low` to `high`, refused at the first byte with which no such number begins.
     pub fn take_u64_in(&mut self, low: u64, high: u64) -> Result<u64, Misfit>
         ensures ok { IfOk result (λ n. Takes (number_in 8 low high) self.old n self.new) }
+        ensures range { IfOk result (λ n. (low ≤ n) × (n ≤ high)) }
         ensures misfit { IfErr result (λ e. FaultsAt (number_in 8 low high) self.old e.at) }
         ensures err { OnErr result (self.new ≡ self.old) }
     {

@@ -5,7 +5,9 @@ mod cutter;
 mod faults;
 mod numbers;
 mod packer;
+mod unread;
 
 pub use cutter::Cutter;
 pub use faults::{CutFault, Misfit};
 pub use packer::Packer;
+pub use unread::Unread;

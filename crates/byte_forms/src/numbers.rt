@@ -10,7 +10,7 @@ pub(crate) fn read_number(bytes: &[u8], width: u8, low: u64, high: u64) -> Resul
     requires some { 0 < width }
     requires fits { width ≤ 8 }
     ensures { MatchResult result
-        (λ n. (width ≤ length bytes.now) × (n ≤ high) × (number_in width low high bytes.now ≡ Got n (drop width bytes.now)))
+        (λ n. (width ≤ length bytes.now) × (low ≤ n) × (n ≤ high) × (number_in width low high bytes.now ≡ Got n (drop width bytes.now)))
         (λ i. (i ≤ length bytes.now) × (number_in width low high bytes.now ≡ Fault (length bytes.now - i))) }
 {
     if low > high {

@@ -1,0 +1,4 @@
+pub mod Incs
+pub mod Ballots
+pub mod Ids
+pub mod Gtids

@@ -1,2 +1,8 @@
-//! Names as bytes.
+//! Names as bytes: incarnations, ballots, identities of values, GTIDs.
 #![tactic(auto)]
+
+mod packing;
+mod taking;
+
+pub use packing::{put_ballot, put_gtid, put_id, put_inc};
+pub use taking::{take_ballot, take_gtid, take_id, take_inc, take_inc_after};

@@ -1,7 +1,8 @@
 -- When a Welcome is in order, tried on cases.
 use Rattle.std.proofs.Common.{◌≡◌, ℕ, true, false, Option, Some, None, List, [], ◌∷◌, ◌++◌, refl}
-use Rattle.node_rules.specs.Names.{Inc, Welcome, WelcomeMember, MemberState, Online, Recovering, Mode, Single, Multi}
-use Rattle.node_rules.specs.Welcoming.{is_in_order, is_for}
+use Rattle.node_rules.specs.Names.{Inc, Value, Noop, Welcome, WelcomeMember, MemberState, Online, Recovering, Mode, Single, Multi}
+use Rattle.node_rules.specs.Node.{Node, joiner}
+use Rattle.node_rules.specs.Welcoming.{is_in_order, is_for, hear_welcome}
 
 abbrev inc : ℕ → ℕ → Inc
 inc s n = record { server = s; start = n }
@@ -50,3 +51,41 @@ for_no_founder = refl
 
 for_another_horizon : is_for (welcome both Multi None one_then_two) (inc 2 1) 3 ≡ false
 for_another_horizon = refl
+
+-- ---- beginning with one
+
+-- a joiner that has promised so much and learnt slots 2 and 4
+abbrev joining : ℕ → Node
+joining r =
+    let v : Value = record { id = record { origin = inc 1 1; number = 1 }; what = Noop } in
+    record (joiner (record { founders = inc 1 1 ∷ []; horizon = 2 }) (inc 2 1)) {
+      acceptor = record { promise = record { round = r; inc = inc 1 1 }; votes = []; low = 0 };
+      learner = record { decided = record { slot = 2; value = v } ∷ record { slot = 4; value = v } ∷ []; slot = 0; next = 0 };
+    }
+
+abbrev begun : ℕ → Node
+begun r = (hear_welcome (welcome both Multi None one_then_two) (joining r)).node
+
+-- the promise doesn't fall, and rises to the sender's
+promise_stays : (begun 3).acceptor.promise.round ≡ 3
+unfolding hear_welcome
+promise_stays = refl
+
+promise_rises : (begun 0).acceptor.promise.round ≡ 1
+unfolding hear_welcome
+promise_rises = refl
+
+-- slots are handed out from the one after the Add; slot 3 isn't decided
+next_slots : ◌≡◌ {A = ℕ × ℕ} ((begun 3).learner.slot, (begun 3).learner.next) (2, 3)
+unfolding hear_welcome
+next_slots = refl
+
+-- of the other members each counts from there
+told_slots : (begun 3).told ≡ record { inc = inc 1 1; slot = 2 } ∷ []
+unfolding hear_welcome
+told_slots = refl
+
+-- a second Welcome counts no more
+second_welcome : (hear_welcome (record (welcome both Multi None one_then_two) { slot = 3 }) (begun 3)).node.learner.slot ≡ 2
+unfolding hear_welcome
+second_welcome = refl

@@ -3,7 +3,8 @@ use Rattle.std.specs.Prelude.{ℕ, Bool, true, false, ◌+◌, ◌&&◌, not, Op
 use Rattle.std.specs.List.{list_any, list_all}
 use Rattle.node_rules.specs.Names.{Inc, Ballot, MemberState, Online, Recovering, Mode, Single, Multi, Joiner, Member, TurnsAt, Welcome, WelcomeMember}
 use Rattle.gr_ids.specs.Names.{inc_eq, ballot_lt, has_inc}
-use Rattle.slot_values.specs.Log.{Turns, turns_at, turns_from}
+use Rattle.slot_values.specs.Log.{Turns}
+use Rattle.slot_values.specs.Turns.{told as turns_at, resumed as turns_from}
 use Rattle.node_rules.specs.Lists.{incs_eq, others}
 use Rattle.node_rules.specs.Learner.{begin_at}
 use Rattle.node_rules.specs.Node.{Node, Effect, quiet, told_from}

@@ -1,0 +1,3 @@
+pub mod Welcomes
+pub mod Gives
+pub mod Messages

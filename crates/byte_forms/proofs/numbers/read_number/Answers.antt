@@ -71,4 +71,5 @@ returns c =
     let got = number-whole c.args.width c.args.low c.args.high c.args.bytes.now enough (λ j pos le. c.loop-i.invariant.passes j pos (omega arith)) in
     let is : c.loop-i.value ≡ number_of (take c.args.width c.args.bytes.now) = c.loop-i.invariant.value ∙ ap (λ k. number_of (take k c.args.bytes.now)) end in
     let at : number_in c.args.width c.args.low c.args.high c.args.bytes.now ≡ Got c.loop-i.value (drop c.args.width c.args.bytes.now) = got ∙ ap (λ n. Got n (drop c.args.width c.args.bytes.now)) (sym is) in
-    (enough, (number_in-got c.args.width c.args.low c.args.high c.loop-i.value c.args.bytes.now _ c.requires.some at).below, at)
+    let read = number_in-got c.args.width c.args.low c.args.high c.loop-i.value c.args.bytes.now _ c.requires.some at in
+    (enough, read.above, read.below, at)
