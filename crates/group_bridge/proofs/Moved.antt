@@ -42,7 +42,7 @@ use Rattle.group_rules.specs.Events.{Done, Made, Committed, Is, Gave, Answered, 
 use Rattle.group_rules.specs.Life.{state, is_up, executed, view, last_made, ticks, entry_at}
 use Rattle.group_rules.specs.Watch.{Watch, watch}
 use Rattle.group_rules.specs.Member.{Member, push, by_node, at_node, own, own_body, next_id, answer, last_answer, for_each, leave_session, fall, unanswered, waiting_as}
-use Rattle.group_rules.specs.Bytes.{body_bytes}
+use Rattle.txn_forms.specs.Bodies.{body_bytes}
 use Rattle.group_rules.specs.Sessions.{Phase, Free, Holding, Active, Asking, phase, sessions, Call, last_call, changes}
 use Rattle.group_rules.specs.Keys.{killed, holder}
 use Rattle.group_rules.specs.Rows.{row_then}

@@ -4,7 +4,7 @@ use Rattle.std.specs.Prelude.{ℕ, ◌+◌, ◌-◌, ◌^◌, Bool, true, false,
 use Rattle.gr_ids.specs.Names.{is_inc}
 use Rattle.key_items.specs.Items.{with_item}
 use Rattle.group_rules.specs.Names.{ValueId, Gtid, Item, Change, ChangeKind, Inserts, Updates, Deletes, Txn, Part, Writes, Sync, PartOf, Says, Level, MemberState, Offline, Request, Begin, Get, Insert, Update, Delete, Commit, Rollback, Holder, Answer, Got, Sent, CommittedEmpty, RolledBack, Busy, NoTransaction, NotOnline, ReadOnly, RowLocked, DuplicateKey, NoRow, Killed, MemberLeft, TooLarge}
-use Rattle.group_rules.specs.Bytes.{body_bytes}
+use Rattle.txn_forms.specs.Bodies.{body_bytes}
 use Rattle.group_rules.specs.View.{is_single}
 use Rattle.group_rules.specs.Events.{Called, Changed, AsksCommit}
 use Rattle.group_rules.specs.Life.{state, is_up, executed, view, last_made}

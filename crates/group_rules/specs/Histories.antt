@@ -2,7 +2,7 @@
 use Rattle.std.specs.Prelude.{◌≡◌, Bool, true, false, List, [], ◌∷◌, map}
 use Rattle.gr_ids.specs.Names.{inc_eq, inc_lt, bytes_eq, bytes_lt}
 use Rattle.group_rules.specs.Names.{Message, Mark}
-use Rattle.group_rules.specs.Bytes.{message_bytes}
+use Rattle.paxos_forms.specs.Messages.{message_bytes}
 use Rattle.group_rules.specs.Events.{Event, marks_of}
 use Rattle.group_rules.specs.Member.{Member}
 use Rattle.group_rules.specs.Steps.{step, left_by}

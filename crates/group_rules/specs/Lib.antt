@@ -1,6 +1,4 @@
 pub mod Names
-pub mod Bytes
-pub mod Reads
 pub mod View
 pub mod Events
 pub mod Life

@@ -2,7 +2,7 @@
 use Rattle.std.specs.Prelude.{ℕ, suc, true, false, Option, Some, None, List, [], ◌∷◌, ◌++◌}
 use Rattle.gr_ids.specs.Names.{id_eq}
 use Rattle.group_rules.specs.Names.{Inc, ValueId, Joiner, What, Says, Value, Body, Message, Wire, Error, Cause, Answer, MemberLeft, Undecided, NotAcknowledged}
-use Rattle.group_rules.specs.Bytes.{body_bytes}
+use Rattle.txn_forms.specs.Bodies.{body_bytes}
 use Rattle.node_rules.specs.declared.event.PaxosEvent.{PaxosEvent}
 use Rattle.node_rules.specs.declared.event.PaxosEvent.TheVariants.{Own}
 use Rattle.node_rules.specs.Node.{Node, Effect, message}

@@ -2,7 +2,7 @@
 use Rattle.std.specs.Prelude.{ℕ, zero, suc, ◌+◌, ◌-◌, ◌/◌, Bool, true, false, ◌&&◌, ◌||◌, not, Option, Some, None, List, [], ◌∷◌, ◌++◌, length, take, drop, nat_lt, nat_le, ◌==◌}
 use Rattle.gr_ids.specs.Names.{inc_eq}
 use Rattle.group_rules.specs.Names.{Inc, OpenParts, Part, Body, Writes, PartOf, What, Says}
-use Rattle.group_rules.specs.Reads.{read_body}
+use Rattle.txn_forms.specs.Bodies.{read_body}
 use Rattle.group_rules.specs.Events.{Took, Restores, Life}
 
 -- the bytes of a whole body number at most these; those of a transaction in parts more, and at most `most_bytes`

@@ -5,8 +5,8 @@ use Rattle.std.specs.List.{list_all}
 use Rattle.gr_ids.specs.Names.{inc_eq, is_inc}
 use Rattle.gtid_sets.specs.Sets.{Gtids, has, with_gtid, minus}
 use Rattle.group_rules.specs.Names.{Inc, LastNumber, OpenParts, What, Add, Txn, Body, Writes, Effect, Plain, Wire, Asks, Gives, Welcome, Give, Given, Asked, Failed, NoAskDue, NoAskPending, Extra, NoDonor}
-use Rattle.group_rules.specs.Bytes.{body_bytes}
-use Rattle.group_rules.specs.Reads.{read_body}
+use Rattle.txn_forms.specs.Bodies.{body_bytes}
+use Rattle.txn_forms.specs.Bodies.{read_body}
 use Rattle.group_rules.specs.View.{View, seated, online_incs}
 use Rattle.node_rules.specs.Learner.{learnt_remove}
 use Rattle.group_rules.specs.Events.{Restores, Gave, AskFails, Replied, Life, Setup, Entry, Cert}

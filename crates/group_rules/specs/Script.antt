@@ -1,9 +1,10 @@
 -- What each step of a script does, and when it is refused. A step is one move of the world after another.
 use Rattle.std.specs.Prelude.{ℕ, zero, suc, ◌+◌, ◌^◌, Bool, true, false, ◌&&◌, ◌||◌, Option, Some, None, List, [], ◌∷◌, ◌++◌, ◌==◌, nat_lt, length, map, drop}
 use Rattle.std.specs.List.{list_any, list_all}
-use Rattle.group_rules.specs.Names.{Inc, Item, Change, ChangeKind, Inserts, Updates, Deletes, Joiner, Mode, Eventual, Message, Mark, Request, Begin, Insert, Update, Delete, Commit, Rollback, Finish}
+use Rattle.group_rules.specs.Names.{Inc, Item, Change, ChangeKind, Inserts, Updates, Deletes, Joiner, Mode, Eventual, Message, Mark, Request, Begin, Insert, Update, Delete, Commit, Rollback, Finish, Wire, Prepare, Promise, Accept, Accepted, Learn, Offer, Greet, Asks, Gives, Alive, Gone}
 use Rattle.group_rules.specs.Names.{Writes as HasTxn}
-use Rattle.group_rules.specs.Bytes.{wire_kind, body_bytes, message_bytes}
+use Rattle.txn_forms.specs.Bodies.{body_bytes}
+use Rattle.paxos_forms.specs.Messages.{message_bytes}
 use Rattle.group_rules.specs.declared.said.Said.{Said}
 use Rattle.group_rules.specs.declared.said.Said.TheVariants.{Marked, Idle, Offline as WroteOffline, Looked}
 use Rattle.group_rules.specs.declared.said.Look.{Look}
@@ -240,6 +241,20 @@ look f (Some a) y = say (Looked (f a)) y
 
 abbrev pub look_at : (Member → Look) → ℕ → Play → Play
 look_at f n y = look f (member_at y.world n) y
+
+-- the byte of a message's kind
+abbrev pub wire_kind : Wire → ℕ
+wire_kind (Prepare b s) = 1
+wire_kind (Promise b s xs) = 2
+wire_kind (Accept b t v) = 3
+wire_kind (Accepted b t) = 4
+wire_kind (Learn t v) = 5
+wire_kind (Offer v) = 6
+wire_kind (Greet w) = 7
+wire_kind (Asks a) = 8
+wire_kind (Gives g) = 9
+wire_kind (Alive n) = 10
+wire_kind Gone = 11
 
 abbrev pub wire_lines : ℕ → List Letter → List WireLine
 wire_lines k [] = []

@@ -10,7 +10,7 @@ use Rattle.node_rules.specs.Node.{founder, joiner}
 use Rattle.group_rules.specs.Events.{Founds, Starts, Came, Called, Done, Is, Answered, Replied, Event, Hears, Ticks, Works, Calls, Operates, Life, Setup, Stored, Cert}
 use Rattle.group_rules.specs.Life.{state, is_up, is_error, is_recovering, is_offline, executed, view, ticks}
 use Rattle.group_rules.specs.Watch.{Watch, watch, suspects, gives_up, is_expel_due, leads_by_rank}
-use Rattle.group_rules.specs.Bytes.{body_bytes}
+use Rattle.txn_forms.specs.Bodies.{body_bytes}
 use Rattle.group_rules.specs.Names.{Writes}
 use Rattle.group_rules.specs.Queue.{queue, at_place, is_done}
 use Rattle.group_rules.specs.Sessions.{phase, sessions, Call, last_call, is_holding}

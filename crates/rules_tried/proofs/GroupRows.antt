@@ -19,6 +19,15 @@ use Rattle.group_rules.specs.Points.{point}
 use Rattle.group_rules.specs.Taking.{settle_slots}
 use Rattle.group_rules.specs.Steps.{step, found, start}
 use Rattle.uuid.specs.Text.{by_index}
+use Rattle.byte_forms.specs.Numbers.{number, number_of}
+use Rattle.byte_forms.specs.Fields.{field, word, begins_number, number_in}
+use Rattle.byte_forms.specs.Lists.{elements}
+use Rattle.name_forms.specs.Incs.{next_inc}
+use Rattle.name_forms.specs.Gtids.{next_gtid}
+use Rattle.gtid_sets.specs.Spelling.{next_interval_after, next_source_above, next_set}
+use Rattle.key_items.specs.Spelling.{next_item_after}
+use Rattle.txn_forms.specs.Changes.{next_kind, next_change}
+use Rattle.txn_forms.specs.Bodies.{next_body, next_txn, next_mode, next_part}
 use Rattle.slot_values.specs.Log.{read, turn}
 use Rattle.node_rules.specs.Voting.{hear_prepare, hear_accept}
 use Rattle.node_rules.specs.Learning.{hear_learn, hear_accepted, hear_alive}
@@ -88,7 +97,7 @@ failover_text : full failover ≡
     codes "9 2.1 committed aaaaaaaa-aaaa-aaaa-aaaa-aaaaaaaaaaaa:2" ∷
     codes "9 2.1 answer 7 begun aaaaaaaa-aaaa-aaaa-aaaa-aaaaaaaaaaaa:1-2" ∷
     []
-unfolding by_index full run apply plays move settle drain step found start call point settle_slots read turn node_step hear hear_prepare hear_accept hear_learn hear_promise hear_accepted propose_one own_value hear_offer campaign hear_alive tick take hear_welcome forget
+unfolding number number_of field word begins_number number_in elements next_inc next_gtid next_interval_after next_source_above next_set next_item_after next_kind next_change next_body next_txn next_mode next_part by_index full run apply plays move settle drain step found start call point settle_slots read turn node_step hear hear_prepare hear_accept hear_learn hear_promise hear_accepted propose_one own_value hear_offer campaign hear_alive tick take hear_welcome forget
 failover_text = refl
 
 -- failover-hold-timeout
@@ -133,7 +142,7 @@ failover_hold_timeout_text : full failover_hold_timeout ≡
     codes "7 ok" ∷
     codes "8 2.1 answer 7 hold timeout 2" ∷
     []
-unfolding by_index full run apply plays move settle drain step found start call point settle_slots read turn node_step hear hear_prepare hear_accept hear_learn hear_promise hear_accepted propose_one own_value hear_offer campaign hear_alive tick take hear_welcome forget
+unfolding number number_of field word begins_number number_in elements next_inc next_gtid next_interval_after next_source_above next_set next_item_after next_kind next_change next_body next_txn next_mode next_part by_index full run apply plays move settle drain step found start call point settle_slots read turn node_step hear hear_prepare hear_accept hear_learn hear_promise hear_accepted propose_one own_value hear_offer campaign hear_alive tick take hear_welcome forget
 failover_hold_timeout_text = refl
 
 -- primary-moved
@@ -166,7 +175,7 @@ primary_moved_text : full primary_moved ≡
     codes "6 3.1 member 3.1 ONLINE" ∷
     codes "6 3.1 view 1 single" ∷
     []
-unfolding by_index full run apply plays move settle drain step found start call point settle_slots read turn node_step hear hear_prepare hear_accept hear_learn hear_promise hear_accepted propose_one own_value hear_offer campaign hear_alive tick take hear_welcome forget
+unfolding number number_of field word begins_number number_in elements next_inc next_gtid next_interval_after next_source_above next_set next_item_after next_kind next_change next_body next_txn next_mode next_part by_index full run apply plays move settle drain step found start call point settle_slots read turn node_step hear hear_prepare hear_accept hear_learn hear_promise hear_accepted propose_one own_value hear_offer campaign hear_alive tick take hear_welcome forget
 primary_moved_text = refl
 
 -- expelled-unaware
@@ -232,7 +241,7 @@ expelled_unaware_text : full expelled_unaware ≡
     codes "18 3.1 answer o4 undecided 3.1#1" ∷
     codes "19 3.1 answer 8 member left" ∷
     []
-unfolding by_index full run apply plays move settle drain step found start call point settle_slots read turn node_step hear hear_prepare hear_accept hear_learn hear_promise hear_accepted propose_one own_value hear_offer campaign hear_alive tick take hear_welcome forget
+unfolding number number_of field word begins_number number_in elements next_inc next_gtid next_interval_after next_source_above next_set next_item_after next_kind next_change next_body next_txn next_mode next_part by_index full run apply plays move settle drain step found start call point settle_slots read turn node_step hear hear_prepare hear_accept hear_learn hear_promise hear_accepted propose_one own_value hear_offer campaign hear_alive tick take hear_welcome forget
 expelled_unaware_text = refl
 
 -- majority-lost
@@ -258,7 +267,7 @@ majority_lost_text : full majority_lost ≡
     codes "6 1.1 answer o6 not online ERROR" ∷
     codes "6 1.1 answer o6 rolled back" ∷
     []
-unfolding by_index full run apply plays move settle drain step found start call point settle_slots read turn node_step hear hear_prepare hear_accept hear_learn hear_promise hear_accepted propose_one own_value hear_offer campaign hear_alive tick take hear_welcome forget
+unfolding number number_of field word begins_number number_in elements next_inc next_gtid next_interval_after next_source_above next_set next_item_after next_kind next_change next_body next_txn next_mode next_part by_index full run apply plays move settle drain step found start call point settle_slots read turn node_step hear hear_prepare hear_accept hear_learn hear_promise hear_accepted propose_one own_value hear_offer campaign hear_alive tick take hear_welcome forget
 majority_lost_text = refl
 
 -- removed-with-queue
@@ -294,5 +303,5 @@ removed_with_queue_text : full removed_with_queue ≡
     codes "6 2.1 committed aaaaaaaa-aaaa-aaaa-aaaa-aaaaaaaaaaaa:1" ∷
     codes "7 3.1 reply idle" ∷
     []
-unfolding by_index full run apply plays move settle drain step found start call point settle_slots read turn node_step hear hear_prepare hear_accept hear_learn hear_promise hear_accepted propose_one own_value hear_offer campaign hear_alive tick take hear_welcome forget
+unfolding number number_of field word begins_number number_in elements next_inc next_gtid next_interval_after next_source_above next_set next_item_after next_kind next_change next_body next_txn next_mode next_part by_index full run apply plays move settle drain step found start call point settle_slots read turn node_step hear hear_prepare hear_accept hear_learn hear_promise hear_accepted propose_one own_value hear_offer campaign hear_alive tick take hear_welcome forget
 removed_with_queue_text = refl

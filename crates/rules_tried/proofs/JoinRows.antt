@@ -19,6 +19,15 @@ use Rattle.group_rules.specs.Points.{point}
 use Rattle.group_rules.specs.Taking.{settle_slots}
 use Rattle.group_rules.specs.Steps.{step, found, start}
 use Rattle.uuid.specs.Text.{by_index}
+use Rattle.byte_forms.specs.Numbers.{number, number_of}
+use Rattle.byte_forms.specs.Fields.{field, word, begins_number, number_in}
+use Rattle.byte_forms.specs.Lists.{elements}
+use Rattle.name_forms.specs.Incs.{next_inc}
+use Rattle.name_forms.specs.Gtids.{next_gtid}
+use Rattle.gtid_sets.specs.Spelling.{next_interval_after, next_source_above, next_set}
+use Rattle.key_items.specs.Spelling.{next_item_after}
+use Rattle.txn_forms.specs.Changes.{next_kind, next_change}
+use Rattle.txn_forms.specs.Bodies.{next_body, next_txn, next_mode, next_part}
 use Rattle.slot_values.specs.Log.{read, turn}
 use Rattle.node_rules.specs.Voting.{hear_prepare, hear_accept}
 use Rattle.node_rules.specs.Learning.{hear_learn, hear_accepted, hear_alive}
@@ -96,7 +105,7 @@ joiner_online_inside_after_text : full joiner_online_inside_after ≡
     codes "15 3.1 answer 9 begun aaaaaaaa-aaaa-aaaa-aaaa-aaaaaaaaaaaa:1" ∷
     codes "16 3.1 answer 9 row 1" ∷
     []
-unfolding by_index full run apply plays move settle drain step found start call point settle_slots read turn node_step hear hear_prepare hear_accept hear_learn hear_promise hear_accepted propose_one own_value hear_offer campaign hear_alive tick take hear_welcome forget
+unfolding number number_of field word begins_number number_in elements next_inc next_gtid next_interval_after next_source_above next_set next_item_after next_kind next_change next_body next_txn next_mode next_part by_index full run apply plays move settle drain step found start call point settle_slots read turn node_step hear hear_prepare hear_accept hear_learn hear_promise hear_accepted propose_one own_value hear_offer campaign hear_alive tick take hear_welcome forget
 joiner_online_inside_after_text = refl
 
 -- ten-failed-asks
@@ -162,7 +171,7 @@ ten_failed_asks_text : full ten_failed_asks ≡
     codes "25 3.1 reply no ask due" ∷
     codes "26 3.1 reply no ask pending" ∷
     []
-unfolding by_index full run apply plays move settle drain step found start call point settle_slots read turn node_step hear hear_prepare hear_accept hear_learn hear_promise hear_accepted propose_one own_value hear_offer campaign hear_alive tick take hear_welcome forget
+unfolding number number_of field word begins_number number_in elements next_inc next_gtid next_interval_after next_source_above next_set next_item_after next_kind next_change next_body next_txn next_mode next_part by_index full run apply plays move settle drain step found start call point settle_slots read turn node_step hear hear_prepare hear_accept hear_learn hear_promise hear_accepted propose_one own_value hear_offer campaign hear_alive tick take hear_welcome forget
 ten_failed_asks_text = refl
 
 -- give-of-the-add
@@ -204,5 +213,5 @@ give_of_the_add_text : full give_of_the_add ≡
     codes "9 3.1 item t a aaaaaaaa-aaaa-aaaa-aaaa-aaaaaaaaaaaa:1" ∷
     codes "9 3.1 items 1" ∷
     []
-unfolding by_index full run apply plays move settle drain step found start call point settle_slots read turn node_step hear hear_prepare hear_accept hear_learn hear_promise hear_accepted propose_one own_value hear_offer campaign hear_alive tick take hear_welcome forget
+unfolding number number_of field word begins_number number_in elements next_inc next_gtid next_interval_after next_source_above next_set next_item_after next_kind next_change next_body next_txn next_mode next_part by_index full run apply plays move settle drain step found start call point settle_slots read turn node_step hear hear_prepare hear_accept hear_learn hear_promise hear_accepted propose_one own_value hear_offer campaign hear_alive tick take hear_welcome forget
 give_of_the_add_text = refl

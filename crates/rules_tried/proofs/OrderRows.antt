@@ -19,6 +19,15 @@ use Rattle.group_rules.specs.Points.{point}
 use Rattle.group_rules.specs.Taking.{settle_slots}
 use Rattle.group_rules.specs.Steps.{step, found, start}
 use Rattle.uuid.specs.Text.{by_index}
+use Rattle.byte_forms.specs.Numbers.{number, number_of}
+use Rattle.byte_forms.specs.Fields.{field, word, begins_number, number_in}
+use Rattle.byte_forms.specs.Lists.{elements}
+use Rattle.name_forms.specs.Incs.{next_inc}
+use Rattle.name_forms.specs.Gtids.{next_gtid}
+use Rattle.gtid_sets.specs.Spelling.{next_interval_after, next_source_above, next_set}
+use Rattle.key_items.specs.Spelling.{next_item_after}
+use Rattle.txn_forms.specs.Changes.{next_kind, next_change}
+use Rattle.txn_forms.specs.Bodies.{next_body, next_txn, next_mode, next_part}
 use Rattle.slot_values.specs.Log.{read, turn}
 use Rattle.node_rules.specs.Voting.{hear_prepare, hear_accept}
 use Rattle.node_rules.specs.Learning.{hear_learn, hear_accepted, hear_alive}
@@ -85,7 +94,7 @@ chosen_in_two_slots_text : full chosen_in_two_slots ≡
     codes "12 1.1 slots next 3 place 1 promise 2/3.1" ∷
     codes "13 refused NoMessage 99" ∷
     []
-unfolding by_index full run apply plays move settle drain step found start call point settle_slots read turn node_step hear hear_prepare hear_accept hear_learn hear_promise hear_accepted propose_one own_value hear_offer campaign hear_alive tick take hear_welcome forget
+unfolding number number_of field word begins_number number_in elements next_inc next_gtid next_interval_after next_source_above next_set next_item_after next_kind next_change next_body next_txn next_mode next_part by_index full run apply plays move settle drain step found start call point settle_slots read turn node_step hear hear_prepare hear_accept hear_learn hear_promise hear_accepted propose_one own_value hear_offer campaign hear_alive tick take hear_welcome forget
 chosen_in_two_slots_text = refl
 
 -- delayed-behind-executed
@@ -140,7 +149,7 @@ delayed_behind_executed_text : full delayed_behind_executed ≡
     codes "13 2.1 took 3 2.1#2 executed aaaaaaaa-aaaa-aaaa-aaaa-aaaaaaaaaaaa:1" ∷
     codes "13 3.1 took 3 2.1#2 executed aaaaaaaa-aaaa-aaaa-aaaa-aaaaaaaaaaaa:1" ∷
     []
-unfolding by_index full run apply plays move settle drain step found start call point settle_slots read turn node_step hear hear_prepare hear_accept hear_learn hear_promise hear_accepted propose_one own_value hear_offer campaign hear_alive tick take hear_welcome forget
+unfolding number number_of field word begins_number number_in elements next_inc next_gtid next_interval_after next_source_above next_set next_item_after next_kind next_change next_body next_txn next_mode next_part by_index full run apply plays move settle drain step found start call point settle_slots read turn node_step hear hear_prepare hear_accept hear_learn hear_promise hear_accepted propose_one own_value hear_offer campaign hear_alive tick take hear_welcome forget
 delayed_behind_executed_text = refl
 
 -- old-leader-accept
@@ -173,7 +182,7 @@ old_leader_accept_text : full old_leader_accept ≡
     codes "8 wire 7 2.1 3.1 Promise" ∷
     codes "8 wire 3 of 7" ∷
     []
-unfolding by_index full run apply plays move settle drain step found start call point settle_slots read turn node_step hear hear_prepare hear_accept hear_learn hear_promise hear_accepted propose_one own_value hear_offer campaign hear_alive tick take hear_welcome forget
+unfolding number number_of field word begins_number number_in elements next_inc next_gtid next_interval_after next_source_above next_set next_item_after next_kind next_change next_body next_txn next_mode next_part by_index full run apply plays move settle drain step found start call point settle_slots read turn node_step hear hear_prepare hear_accept hear_learn hear_promise hear_accepted propose_one own_value hear_offer campaign hear_alive tick take hear_welcome forget
 old_leader_accept_text = refl
 
 -- horizon-of-a-remove
@@ -236,7 +245,7 @@ horizon_of_a_remove_text : full horizon_of_a_remove ≡
     codes "9 1.1 config 15 1.1 2.1" ∷
     codes "10 1.1 config 16 unknown" ∷
     []
-unfolding by_index full run apply plays move settle drain step found start call point settle_slots read turn node_step hear hear_prepare hear_accept hear_learn hear_promise hear_accepted propose_one own_value hear_offer campaign hear_alive tick take hear_welcome forget
+unfolding number number_of field word begins_number number_in elements next_inc next_gtid next_interval_after next_source_above next_set next_item_after next_kind next_change next_body next_txn next_mode next_part by_index full run apply plays move settle drain step found start call point settle_slots read turn node_step hear hear_prepare hear_accept hear_learn hear_promise hear_accepted propose_one own_value hear_offer campaign hear_alive tick take hear_welcome forget
 horizon_of_a_remove_text = refl
 
 -- lost-promise
@@ -272,7 +281,7 @@ lost_promise_text : full lost_promise ≡
     codes "10 2.1 committed aaaaaaaa-aaaa-aaaa-aaaa-aaaaaaaaaaaa:1" ∷
     codes "10 2.1 answer o8 committed aaaaaaaa-aaaa-aaaa-aaaa-aaaaaaaaaaaa:1" ∷
     []
-unfolding by_index full run apply plays move settle drain step found start call point settle_slots read turn node_step hear hear_prepare hear_accept hear_learn hear_promise hear_accepted propose_one own_value hear_offer campaign hear_alive tick take hear_welcome forget
+unfolding number number_of field word begins_number number_in elements next_inc next_gtid next_interval_after next_source_above next_set next_item_after next_kind next_change next_body next_txn next_mode next_part by_index full run apply plays move settle drain step found start call point settle_slots read turn node_step hear hear_prepare hear_accept hear_learn hear_promise hear_accepted propose_one own_value hear_offer campaign hear_alive tick take hear_welcome forget
 lost_promise_text = refl
 
 -- kept-from
@@ -306,7 +315,7 @@ kept_from_text : full kept_from ≡
     codes "7 ok" ∷
     codes "8 1.1 kept from 2" ∷
     []
-unfolding by_index full run apply plays move settle drain step found start call point settle_slots read turn node_step hear hear_prepare hear_accept hear_learn hear_promise hear_accepted propose_one own_value hear_offer campaign hear_alive tick take hear_welcome forget
+unfolding number number_of field word begins_number number_in elements next_inc next_gtid next_interval_after next_source_above next_set next_item_after next_kind next_change next_body next_txn next_mode next_part by_index full run apply plays move settle drain step found start call point settle_slots read turn node_step hear hear_prepare hear_accept hear_learn hear_promise hear_accepted propose_one own_value hear_offer campaign hear_alive tick take hear_welcome forget
 kept_from_text = refl
 
 -- gone-from-forgotten-slot
@@ -346,5 +355,5 @@ gone_from_forgotten_slot_text : full gone_from_forgotten_slot ≡
     codes "13 3.1 state ERROR gone" ∷
     codes "14 1.1 slots next 2 place 1 promise 1/1.1" ∷
     []
-unfolding by_index full run apply plays move settle drain step found start call point settle_slots read turn node_step hear hear_prepare hear_accept hear_learn hear_promise hear_accepted propose_one own_value hear_offer campaign hear_alive tick take hear_welcome forget
+unfolding number number_of field word begins_number number_in elements next_inc next_gtid next_interval_after next_source_above next_set next_item_after next_kind next_change next_body next_txn next_mode next_part by_index full run apply plays move settle drain step found start call point settle_slots read turn node_step hear hear_prepare hear_accept hear_learn hear_promise hear_accepted propose_one own_value hear_offer campaign hear_alive tick take hear_welcome forget
 gone_from_forgotten_slot_text = refl

@@ -19,6 +19,15 @@ use Rattle.group_rules.specs.Points.{point}
 use Rattle.group_rules.specs.Taking.{settle_slots}
 use Rattle.group_rules.specs.Steps.{step, found, start}
 use Rattle.uuid.specs.Text.{by_index}
+use Rattle.byte_forms.specs.Numbers.{number, number_of}
+use Rattle.byte_forms.specs.Fields.{field, word, begins_number, number_in}
+use Rattle.byte_forms.specs.Lists.{elements}
+use Rattle.name_forms.specs.Incs.{next_inc}
+use Rattle.name_forms.specs.Gtids.{next_gtid}
+use Rattle.gtid_sets.specs.Spelling.{next_interval_after, next_source_above, next_set}
+use Rattle.key_items.specs.Spelling.{next_item_after}
+use Rattle.txn_forms.specs.Changes.{next_kind, next_change}
+use Rattle.txn_forms.specs.Bodies.{next_body, next_txn, next_mode, next_part}
 use Rattle.slot_values.specs.Log.{read, turn}
 use Rattle.node_rules.specs.Voting.{hear_prepare, hear_accept}
 use Rattle.node_rules.specs.Learning.{hear_learn, hear_accepted, hear_alive}
@@ -86,7 +95,7 @@ before_waits_for_backlog_text : full before_waits_for_backlog ≡
     codes "8 3.1 answer 7 begun aaaaaaaa-aaaa-aaaa-aaaa-aaaaaaaaaaaa:1-2 sync 3" ∷
     codes "9 3.1 answer 7 row 2" ∷
     []
-unfolding by_index full run apply plays move settle drain step found start call point settle_slots read turn node_step hear hear_prepare hear_accept hear_learn hear_promise hear_accepted propose_one own_value hear_offer campaign hear_alive tick take hear_welcome forget
+unfolding number number_of field word begins_number number_in elements next_inc next_gtid next_interval_after next_source_above next_set next_item_after next_kind next_change next_body next_txn next_mode next_part by_index full run apply plays move settle drain step found start call point settle_slots read turn node_step hear hear_prepare hear_accept hear_learn hear_promise hear_accepted propose_one own_value hear_offer campaign hear_alive tick take hear_welcome forget
 before_waits_for_backlog_text = refl
 
 -- after-with-silent-member
@@ -130,7 +139,7 @@ after_with_silent_member_text : full after_with_silent_member ≡
     codes "13 2.1 took 3 1.1#2 remove 3.1" ∷
     codes "13 2.1 committed aaaaaaaa-aaaa-aaaa-aaaa-aaaaaaaaaaaa:1" ∷
     []
-unfolding by_index full run apply plays move settle drain step found start call point settle_slots read turn node_step hear hear_prepare hear_accept hear_learn hear_promise hear_accepted propose_one own_value hear_offer campaign hear_alive tick take hear_welcome forget
+unfolding number number_of field word begins_number number_in elements next_inc next_gtid next_interval_after next_source_above next_set next_item_after next_kind next_change next_body next_txn next_mode next_part by_index full run apply plays move settle drain step found start call point settle_slots read turn node_step hear hear_prepare hear_accept hear_learn hear_promise hear_accepted propose_one own_value hear_offer campaign hear_alive tick take hear_welcome forget
 after_with_silent_member_text = refl
 
 -- begin-held-by-after
@@ -177,7 +186,7 @@ begin_held_by_after_text : full begin_held_by_after ≡
     codes "14 2.1 committed aaaaaaaa-aaaa-aaaa-aaaa-aaaaaaaaaaaa:1" ∷
     codes "14 2.1 answer 8 begun aaaaaaaa-aaaa-aaaa-aaaa-aaaaaaaaaaaa:1" ∷
     []
-unfolding by_index full run apply plays move settle drain step found start call point settle_slots read turn node_step hear hear_prepare hear_accept hear_learn hear_promise hear_accepted propose_one own_value hear_offer campaign hear_alive tick take hear_welcome forget
+unfolding number number_of field word begins_number number_in elements next_inc next_gtid next_interval_after next_source_above next_set next_item_after next_kind next_change next_body next_txn next_mode next_part by_index full run apply plays move settle drain step found start call point settle_slots read turn node_step hear hear_prepare hear_accept hear_learn hear_promise hear_accepted propose_one own_value hear_offer campaign hear_alive tick take hear_welcome forget
 begin_held_by_after_text = refl
 
 -- hold-limit
@@ -197,7 +206,7 @@ hold_limit_text : full hold_limit ≡
     codes "3 ok" ∷
     codes "4 2.1 answer 7 hold timeout 3" ∷
     []
-unfolding by_index full run apply plays move settle drain step found start call point settle_slots read turn node_step hear hear_prepare hear_accept hear_learn hear_promise hear_accepted propose_one own_value hear_offer campaign hear_alive tick take hear_welcome forget
+unfolding number number_of field word begins_number number_in elements next_inc next_gtid next_interval_after next_source_above next_set next_item_after next_kind next_change next_body next_txn next_mode next_part by_index full run apply plays move settle drain step found start call point settle_slots read turn node_step hear hear_prepare hear_accept hear_learn hear_promise hear_accepted propose_one own_value hear_offer campaign hear_alive tick take hear_welcome forget
 hold_limit_text = refl
 
 -- work-out-of-order
@@ -244,7 +253,7 @@ work_out_of_order_text : full work_out_of_order ≡
     codes "9 2.1 committed aaaaaaaa-aaaa-aaaa-aaaa-aaaaaaaaaaaa:1" ∷
     codes "9 2.1 committed aaaaaaaa-aaaa-aaaa-aaaa-aaaaaaaaaaaa:2" ∷
     []
-unfolding by_index full run apply plays move settle drain step found start call point settle_slots read turn node_step hear hear_prepare hear_accept hear_learn hear_promise hear_accepted propose_one own_value hear_offer campaign hear_alive tick take hear_welcome forget
+unfolding number number_of field word begins_number number_in elements next_inc next_gtid next_interval_after next_source_above next_set next_item_after next_kind next_change next_body next_txn next_mode next_part by_index full run apply plays move settle drain step found start call point settle_slots read turn node_step hear hear_prepare hear_accept hear_learn hear_promise hear_accepted propose_one own_value hear_offer campaign hear_alive tick take hear_welcome forget
 work_out_of_order_text = refl
 
 -- not-acknowledged
@@ -277,7 +286,7 @@ not_acknowledged_text : full not_acknowledged ≡
     codes "9 1.1 state ERROR majority" ∷
     codes "9 1.1 answer 7 not acknowledged aaaaaaaa-aaaa-aaaa-aaaa-aaaaaaaaaaaa:1" ∷
     []
-unfolding by_index full run apply plays move settle drain step found start call point settle_slots read turn node_step hear hear_prepare hear_accept hear_learn hear_promise hear_accepted propose_one own_value hear_offer campaign hear_alive tick take hear_welcome forget
+unfolding number number_of field word begins_number number_in elements next_inc next_gtid next_interval_after next_source_above next_set next_item_after next_kind next_change next_body next_txn next_mode next_part by_index full run apply plays move settle drain step found start call point settle_slots read turn node_step hear hear_prepare hear_accept hear_learn hear_promise hear_accepted propose_one own_value hear_offer campaign hear_alive tick take hear_welcome forget
 not_acknowledged_text = refl
 
 -- begin-in-error
@@ -305,5 +314,5 @@ begin_in_error_text : full begin_in_error ≡
     codes "6 1.1 answer o6 rolled back" ∷
     codes "7 1.1 answer 7 not online ERROR" ∷
     []
-unfolding by_index full run apply plays move settle drain step found start call point settle_slots read turn node_step hear hear_prepare hear_accept hear_learn hear_promise hear_accepted propose_one own_value hear_offer campaign hear_alive tick take hear_welcome forget
+unfolding number number_of field word begins_number number_in elements next_inc next_gtid next_interval_after next_source_above next_set next_item_after next_kind next_change next_body next_txn next_mode next_part by_index full run apply plays move settle drain step found start call point settle_slots read turn node_step hear hear_prepare hear_accept hear_learn hear_promise hear_accepted propose_one own_value hear_offer campaign hear_alive tick take hear_welcome forget
 begin_in_error_text = refl

@@ -6,7 +6,7 @@ use Rattle.byte_forms.specs.Fields.{field, word, begins_number, number_in}
 use Rattle.byte_forms.specs.Lists.{elements}
 use Rattle.name_forms.specs.Incs.{next_inc}
 use Rattle.name_forms.specs.Gtids.{next_gtid}
-use Rattle.gtid_sets.specs.Spelling.{next_interval_after, next_source_after, next_set}
+use Rattle.gtid_sets.specs.Spelling.{next_interval_after, next_source_above, next_set}
 use Rattle.key_items.specs.Spelling.{next_item_after}
 use Rattle.key_items.specs.declared.change.ChangeKind.TheVariants.{Insert, Delete}
 use Rattle.txn_forms.specs.Changes.{next_kind, next_change}
@@ -44,5 +44,5 @@ txn = body.Txn (record {
     uuid = 1 ∷ 2 ∷ 3 ∷ 4 ∷ 5 ∷ 6 ∷ 7 ∷ 8 ∷ 9 ∷ 10 ∷ 11 ∷ 12 ∷ 13 ∷ 14 ∷ 15 ∷ 16 ∷ []
 
 txn_is_read : read_body (body_bytes txn) ≡ Some txn
-unfolding txn next_body next_txn next_set next_source_after next_interval_after elements next_item_after next_change next_kind number_in field begins_number number_of number word
+unfolding txn next_body next_txn next_set next_source_above next_interval_after elements next_item_after next_change next_kind number_in field begins_number number_of number word
 txn_is_read = refl
