@@ -1,3 +1,3 @@
 mod Rows
-mod Choices
+mod Parts
 mod Welcomes

@@ -210,3 +210,23 @@ gone_wires = refl
 gone_promise : promise_of (gone.at (inc 1 1)) ≡ 1
 unfolding run node_step hear hear_prepare hear_accept hear_learn hear_promise hear_accepted propose_one own_value hear_offer campaign hear_alive tick take hear_welcome forget turn read
 gone_promise = refl
+
+-- A node keeps what it hasn't taken itself, whatever the others tell.
+abbrev behind : World
+behind = run as_sent three (Does (inc 1 1) (Owns (value (inc 1 1) 1 (Body (1 ∷ []))) ∷ []) ∷ Hears 0 [] ∷ Hears 1 [] ∷ Hears 2 [] ∷ Hears 4 (Takes None ∷ []) ∷ Hears 5 (Takes None ∷ []) ∷ Does (inc 2 1) (Ticks ∷ []) ∷ Does (inc 3 1) (Ticks ∷ []) ∷ Hears 6 [] ∷ Hears 8 [] ∷ [])
+
+kept_behind : ◌≡◌ {A = ℕ × List ℕ} (low_of (behind.at (inc 1 1)), kept_slots (behind.at (inc 1 1))) (1, 1 ∷ [])
+unfolding run node_step hear hear_prepare hear_accept hear_learn hear_promise hear_accepted propose_one own_value hear_offer campaign hear_alive tick take hear_welcome forget turn read
+kept_behind = refl
+
+-- A leader that campaigned anew gets an Accepted of its old ballot: it doesn't count, and nothing is decided.
+abbrev old_vote : World
+old_vote = run as_sent three (Does (inc 1 1) (Owns (value (inc 1 1) 1 (Body (1 ∷ []))) ∷ []) ∷ Hears 1 [] ∷ Does (inc 1 1) (Campaigns ∷ []) ∷ Hears 3 [] ∷ Hears 5 [] ∷ Hears 2 [] ∷ [])
+
+old_vote_wires : wires old_vote ≡ (1, 2, 3) ∷ (1, 3, 3) ∷ (3, 1, 4) ∷ (1, 2, 1) ∷ (1, 3, 1) ∷ (2, 1, 2) ∷ (1, 2, 3) ∷ (1, 3, 3) ∷ []
+unfolding run node_step hear hear_prepare hear_accept hear_learn hear_promise hear_accepted propose_one own_value hear_offer campaign hear_alive tick take hear_welcome forget turn read
+old_vote_wires = refl
+
+old_vote_kept : kept_slots (old_vote.at (inc 1 1)) ≡ []
+unfolding run node_step hear hear_prepare hear_accept hear_learn hear_promise hear_accepted propose_one own_value hear_offer campaign hear_alive tick take hear_welcome forget turn read
+old_vote_kept = refl

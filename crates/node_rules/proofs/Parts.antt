@@ -1,7 +1,10 @@
--- What a leader proposes, tried on cases.
+-- The acceptor, the learner and the leader, tried on cases.
 use Rattle.std.proofs.Common.{◌≡◌, ℕ, Bool, true, false, Option, Some, None, List, [], ◌∷◌, refl}
-use Rattle.std.specs.Prelude.{option_map}
-use Rattle.node_rules.specs.Names.{Inc, Ballot, Value, Vote, Body}
+use Rattle.std.specs.Prelude.{map, option_map}
+use Rattle.node_rules.specs.Names.{Inc, Ballot, Value, Vote, Remove, Body}
+use Rattle.node_rules.specs.Slots.{Entry}
+use Rattle.node_rules.specs.Acceptor.{Acceptor, refuses, voting, votes_from}
+use Rattle.node_rules.specs.Learner.{Learner, new_learner, is_decided, learn, next_entry, pass, waiting, learnt_remove, forget_decided}
 use Rattle.node_rules.specs.Leader.{Promised, Leader, Choice, keep_promise, best, refuses_offer, take_offer, free_slot, choice_by}
 
 abbrev inc : ℕ → Inc
@@ -19,8 +22,74 @@ vote t r k = record { slot = t; ballot = ballot r; value = value k }
 abbrev promise : ℕ → List Vote → Promised
 promise s xs = record { inc = inc s; votes = xs }
 
+abbrev slots_of : List Vote → List (ℕ × ℕ)
+slots_of xs = map (λ x. (x.slot, x.value.id.number)) xs
+
 abbrev number_in : Option Vote → Option ℕ
 number_in o = option_map (λ x. x.value.id.number) o
+
+-- ---- the acceptor
+
+-- it has promised round 3, and forgot the slots below 2
+abbrev acceptor : Acceptor
+acceptor = record { promise = ballot 3; votes = vote 2 1 7 ∷ vote 4 3 8 ∷ []; low = 2 }
+
+refuses_below : ◌≡◌ {A = Bool × Bool × Bool} (refuses acceptor (ballot 2) 2, refuses acceptor (ballot 3) 2, refuses acceptor (ballot 4) 2) (true, false, false)
+refuses_below = refl
+
+-- of one round the greater incarnation's ballot is the higher one
+refuses_lesser : refuses acceptor (record { round = 3; inc = inc 2 }) 2 ≡ true
+refuses_lesser = refl
+
+refuses_forgotten : refuses acceptor (ballot 4) 1 ≡ true
+refuses_forgotten = refl
+
+votes_once : slots_of (voting (voting acceptor (vote 4 4 9)) (vote 3 4 6)).votes ≡ (2, 7) ∷ (3, 6) ∷ (4, 9) ∷ []
+votes_once = refl
+
+reports : ◌≡◌ {A = List (ℕ × ℕ) × List (ℕ × ℕ)} (slots_of (votes_from acceptor 2), slots_of (votes_from acceptor 3)) ((2, 7) ∷ (4, 8) ∷ [], (4, 8) ∷ [])
+reports = refl
+
+-- ---- the learner
+
+-- slots 1, 2 and 4 are decided, and slot 1 was handed out
+abbrev learner : Learner
+learner = pass (learn (learn (learn (new_learner 1) 4 (value 4)) 1 (value 1)) 2 (value 2))
+
+abbrev entries : List Entry → List (ℕ × ℕ)
+entries es = map (λ e. (e.slot, e.value.id.number)) es
+
+learnt : entries learner.decided ≡ (1, 1) ∷ (2, 2) ∷ (4, 4) ∷ []
+learnt = refl
+
+least_undecided : ◌≡◌ {A = ℕ × ℕ} (learner.slot, learner.next) (2, 3)
+least_undecided = refl
+
+fills_the_gap : (learn learner 3 (value 3)).next ≡ 5
+fills_the_gap = refl
+
+-- a slot is decided once
+learnt_twice : learn learner 4 (value 9) ≡ learner
+learnt_twice = refl
+
+next_is_two : option_map {U = ℕ × ℕ} (λ e. (e.slot, e.value.id.number)) (next_entry learner) ≡ Some (2, 2)
+next_is_two = refl
+
+next_is_missing : next_entry (pass learner) ≡ None
+next_is_missing = refl
+
+waits : waiting learner ≡ 2 ∷ 4 ∷ []
+waits = refl
+
+forgotten_is_decided : ◌≡◌ {A = List (ℕ × ℕ) × Bool} (entries (forget_decided 2 learner).decided, is_decided (forget_decided 2 learner) 1) ((2, 2) ∷ (4, 4) ∷ [], true)
+forgotten_is_decided = refl
+
+-- a Remove counts where its slot wasn't handed out
+abbrev removal : Value
+removal = record { id = record { origin = inc 1; number = 5 }; what = Remove (inc 2) }
+
+learns_of_removal : ◌≡◌ {A = Bool × Bool × Bool} (learnt_remove (learn learner 3 removal) (inc 2), learnt_remove (learn learner 3 removal) (inc 1), learnt_remove (pass (pass (learn learner 3 removal))) (inc 2)) (true, false, false)
+learns_of_removal = refl
 
 -- ---- the highest vote reported
 
