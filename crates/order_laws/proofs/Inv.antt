@@ -12,7 +12,8 @@ use Rattle.node_rules.specs.Slots.{Entry}
 use Rattle.node_rules.specs.Welcoming.{told_in}
 use Rattle.node_rules.specs.World.{Took, put_node}
 use Rattle.order_laws.specs.Names.{Taken, Inc, Ballot, Value, Joiner, Add, Vote, Welcome, Wire, Prepare, Promise, Accept, Accepted, Learn, Offer, Greet, Ask, Give, Alive, Gone, Message}
-use Rattle.slot_values.specs.Log.{Group, config, after, became, is_kept, has_effect, Turns, Reading, turns_from}
+use Rattle.slot_values.specs.Log.{Group, config, after, became, is_kept, has_effect, Turns, Reading}
+use Rattle.slot_values.specs.Turns.{resumed}
 use Rattle.order_laws.proofs.Order.{inc-eq, inc_same, lt_same, le_trans}
 use Rattle.order_laws.proofs.Lists.{in_append}
 use Rattle.order_laws.proofs.Agree.{Decided, LogDecided, Report, Supported, Sound}
@@ -61,7 +62,7 @@ pub record Greeted (g : Group) (cs : List Cast) (to : Inc) (x : Welcome) : Type 
   pub log : List Value
   pub log_decided : LogDecided g cs log
   pub slot : x.slot ≡ length log
-  pub reading : ReadsAs (turns_from (told_in x)).reading (after g log)
+  pub reading : ReadsAs (resumed (told_in x)).reading (after g log)
   pub round : 1 ≤ x.promise.round
   pub configs : (k : ℕ) → k < g.horizon → slice_get x.configs k ≡ Some (config g log (x.slot + (k + 1)))
   pub begun : Begun g cs to x.slot

@@ -1,7 +1,7 @@
 -- The acts of a learner and a leader.
-use Rattle.std.proofs.Common.{◌≡◌, ℕ, zero, suc, ◌+◌, ◌-◌, ◌<◌, ◌≤◌, Bool, true, false, ◌⊎◌, inl, inr, Option, Some, None, List, [], ◌∷◌, ◌++◌, length, cond, eqb, eq-eqb, ltb, leb, refl, sym, ap, ◌∙◌, subst, arith, ◌&&◌}
+use Rattle.std.proofs.Common.{◌≡◌, ℕ, zero, suc, ◌+◌, ◌-◌, ◌<◌, ◌≤◌, Bool, true, false, ◌⊎◌, inl, inr, Option, Some, None, List, [], ◌∷◌, ◌++◌, length, cond, eqb, eq-eqb, ltb, refl, sym, ap, ◌∙◌, subst, arith}
 use Rattle.std.specs.Prelude.{slice_get, is_some, unwrap_or}
-use Rattle.std.proofs.lemmas.Bool.{false≢true, cases_eq, eqb-true, cond_both, ltb-true, and_parts, or_cases, or_left, or_right}
+use Rattle.std.proofs.lemmas.Bool.{false≢true, cases_eq, eqb-true, cond_both, ltb-true, or_cases, or_left, or_right}
 use Rattle.std.proofs.lemmas.Option.{slice_get_within}
 use Rattle.gr_ids.specs.Names.{ballot_eq, has_inc, inc_eq, inc_lt}
 use Rattle.node_rules.specs.Chosen.{Cast, has_cast, cast_of}
@@ -107,18 +107,17 @@ pub record Known (g : Group) (cs : List Cast) (c : List Inc) (t : ℕ) : Type 0 
 
 pub known_config : (g : Group) (cs : List Cast) (p : Ballot) (d : Learner) (low : ℕ) (tu : Option Turns) (t : ℕ) (q : Inc → Bool) → LearnerOk g cs p d low tu → majority (unwrap_or (config_by tu t) []) q ≡ true → Known g cs (unwrap_or (config_by tu t) []) t
 known_config g cs p d low None t q k m = absurd (false≢true m)
-known_config g cs p d low (Some w) t q k m = go (ltb w.base t && leb w.low t) refl (slice_get w.configs (t - (w.base + 1))) refl
+known_config g cs p d low (Some w) t q k m = go (ltb w.base t) refl (slice_get w.configs (t - (w.base + 1))) refl
   where
     s : Stands g cs w
     s = (k.turns w refl).0
 
-    go : (u : Bool) → (ltb w.base t && leb w.low t) ≡ u → (o : Option (List Inc)) → slice_get w.configs (t - (w.base + 1)) ≡ o → Known g cs (unwrap_or (config_by (Some w) t) []) t
+    go : (u : Bool) → ltb w.base t ≡ u → (o : Option (List Inc)) → slice_get w.configs (t - (w.base + 1)) ≡ o → Known g cs (unwrap_or (config_by (Some w) t) []) t
     go false e o f = let z : majority [] q ≡ true = rw e at m in absurd (false≢true z)
     go true e None f = let z : majority [] q ≡ true = rw (e, f) at m in absurd (false≢true z)
     go true e (Some c) f =
         let l : t - (w.base + 1) < length w.configs = slice_get_within w.configs (t - (w.base + 1)) c f in
-        let p = and_parts (ltb w.base t) (leb w.low t) e in
-        let b : w.base < t = ltb-true w.base t p.0 in
+        let b : w.base < t = ltb-true w.base t e in
         let in_reach : t ≤ w.slot + g.horizon = omega (arith, s.room) in
         let at_t : config_of w t ≡ Some (config g s.log t) = rw e (s.configs t b in_reach) in
         record {

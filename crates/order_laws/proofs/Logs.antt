@@ -1,5 +1,5 @@
 -- What a node knows of the log: one slot more, some configurations fewer, or what a Welcome tells.
-use Rattle.std.proofs.Common.{◌≡◌, ℕ, zero, suc, ◌+◌, ◌-◌, ◌<◌, ◌≤◌, Bool, true, false, ◌⊎◌, inl, inr, Some, List, [], ◌∷◌, ◌++◌, length, take, drop, max, min, refl, sym, ap, ◌∙◌, subst, arith}
+use Rattle.std.proofs.Common.{◌≡◌, ℕ, zero, suc, ◌+◌, ◌-◌, ◌<◌, ◌≤◌, Bool, true, false, ◌⊎◌, inl, inr, Some, List, [], ◌∷◌, ◌++◌, length, take, drop, refl, sym, ap, ◌∙◌, subst, arith}
 use Rattle.std.specs.Prelude.{slice_get, map}
 use Rattle.std.proofs.lemmas.Bool.{cases_lt}
 use Rattle.std.proofs.lemmas.List.{length-drop}
@@ -124,10 +124,10 @@ turn-slot w v = refl
 
 -- ---- configurations forgotten
 
-pub stands_forget : (g : Group) (cs : List Cast) (k : ℕ) (w : Turns) → Stands g cs w → Stands g cs (forget_configs k w)
-stands_forget g cs k w s = dropped (min (k - (w.base + 1)) (w.slot - w.base)) (omega arith)
+pub stands_forget : (g : Group) (cs : List Cast) (k : ℕ) (w : Turns) → k ≤ w.slot + 1 → Stands g cs w → Stands g cs (forget_configs k w)
+stands_forget g cs k w h s = dropped (k - (w.base + 1)) (omega arith)
   where
-    dropped : (d : ℕ) → d ≤ w.slot - w.base → Stands g cs (record w { base = w.base + d; low = max k w.low; configs = drop d w.configs })
+    dropped : (d : ℕ) → d ≤ w.slot - w.base → Stands g cs (record w { base = w.base + d; configs = drop d w.configs })
     dropped d h = record {
       log = s.log;
       log_decided = s.log_decided;

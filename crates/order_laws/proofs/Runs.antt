@@ -1,7 +1,7 @@
 -- Every event keeps the invariant, so it holds of every run; and the laws on chosen values follow.
 use Rattle.std.proofs.Common.{◌≡◌, ℕ, zero, suc, ◌+◌, ◌-◌, ◌<◌, ◌≤◌, Bool, true, false, cond, inl, inr, Option, Some, None, List, [], ◌∷◌, ◌++◌, length, take, replicate, refl, sym, ap, ◌∙◌, subst, arith}
 use Rattle.std.specs.Prelude.{slice_get, map}
-use Rattle.std.proofs.lemmas.Bool.{cases_Bool, lt-ltb, le-leb, cond_both}
+use Rattle.std.proofs.lemmas.Bool.{cases_Bool, lt-ltb, cond_both}
 use Rattle.gr_ids.specs.Names.{has_inc, inc_eq}
 use Rattle.node_rules.specs.Chosen.{Cast, cast_of}
 use Rattle.node_rules.specs.Leader.{Leader, new_leader}
@@ -210,4 +210,4 @@ follows arrange ok g es far i n t here turns =
     let w = run arrange g es in
     let inv = good arrange ok g es in
     let s = (((inv.nodes i n here).learner).turns t turns).0 in
-    (s.log, log_chosen g (first_ballot g) w.cast far (sound_of g w.at w.wire w.cast w.took inv) s.log s.log_decided, s.slot, (s.reading).place, (s.reading).members, (s.reading).ever, λ k b lo h. rw (lt-ltb t.base k b, le-leb t.low k lo) (s.configs k b h))
+    (s.log, log_chosen g (first_ballot g) w.cast far (sound_of g w.at w.wire w.cast w.took inv) s.log s.log_decided, s.slot, (s.reading).place, (s.reading).members, (s.reading).ever, λ k b h. rw (lt-ltb t.base k b) (s.configs k b h))

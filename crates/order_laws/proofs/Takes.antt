@@ -16,7 +16,8 @@ use Rattle.node_rules.specs.Voting.{promises}
 use Rattle.node_rules.specs.Welcoming.{Shown, is_in_order, is_for, is_recovering, told_in, higher_ballot, welcomed, hear_welcome}
 use Rattle.node_rules.specs.World.{Took, put_node, casts_by, took_by, greet_by, greets, takes}
 use Rattle.order_laws.specs.Names.{Taken, Inc, Ballot, Value, What, Noop, Add, Remove, Body, Joiner, Message, Welcome, WelcomeMember}
-use Rattle.slot_values.specs.Log.{Group, Reading, became, Turns, turns_from, config, after, turn, is_kept, has_effect, forget_configs}
+use Rattle.slot_values.specs.Log.{Group, Reading, became, Turns, config, after, turn, is_kept, has_effect, forget_configs}
+use Rattle.slot_values.specs.Turns.{resumed}
 use Rattle.order_laws.proofs.Order.{lt_same, lt_le, le_round}
 use Rattle.order_laws.proofs.Lists.{in_left, in_push, in_from, in_flat, at_slot-slot, at_slot-in, at_slot-from}
 use Rattle.order_laws.proofs.Agree.{Decided}
@@ -76,7 +77,8 @@ inv_forget g i k n at ws cs ts handed inv here =
     turns_ok (Some y) q w h =
         let s = ok.learner.turns y q in
         let z : forget_configs k y ≡ w = cc in
-        subst (λ v. Stands g cs v × (n.learner.slot ≡ v.slot + 1) × (1 ≤ n.acceptor.promise.round)) z (stands_forget g cs k y s.0, s.1, s.2)
+        let b : k ≤ y.slot + 1 = omega (arith, handed, s.1) in
+        subst (λ v. Stands g cs v × (n.learner.slot ≡ v.slot + 1) × (1 ≤ n.acceptor.promise.round)) z (stands_forget g cs k y b s.0, s.1, s.2)
 
     ok' : n.acceptor.low < k → NodeOk g (put_node at i m) cs i m
     ok' lt = record {
@@ -359,7 +361,7 @@ safe_welcome g i x n at ws cs ts gr inv here = cond_both (not (is_some n.turns) 
         low_m : n.acceptor.low ≤ x.slot + 1
         low_m = omega (arith, ok.learner.low, ok.learner.slot, zero_next)
 
-        stands : Stands g cs (turns_from (told_in x))
+        stands : Stands g cs (resumed (told_in x))
         stands = record {
           log = gr.log;
           log_decided = gr.log_decided;
@@ -383,7 +385,7 @@ safe_welcome g i x n at ws cs ts gr inv here = cond_both (not (is_some n.turns) 
             low = low_m;
             slot = up;
             unwelcomed = λ q. absurd (cc);
-            turns = λ y q. let z : turns_from (told_in x) ≡ y = cc in subst (λ v. Stands g cs v × (x.slot + 1 ≡ v.slot + 1) × (1 ≤ hb.round)) z (stands, refl, higher_round n.acceptor.promise x.promise gr.round);
+            turns = λ y q. let z : resumed (told_in x) ≡ y = cc in subst (λ v. Stands g cs v × (x.slot + 1 ≡ v.slot + 1) × (1 ≤ hb.round)) z (stands, refl, higher_round n.acceptor.promise x.promise gr.round);
           };
           leader = λ l q. leader_rises at0 (put_node at0 i m) (put_rises at0 i m0 m here0 (lt_same hb) nx) g cs i hb m0.learner.next m.learner.next n.acceptor.low l nx (ok0.leader l q);
         }

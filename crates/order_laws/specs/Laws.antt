@@ -26,12 +26,12 @@ abbrev pub TakenAlike : Group → World → Type 0
 TakenAlike g w = (x y : Took) → In x w.took → In y w.took → x.taken.slot ≡ y.taken.slot → x.taken.value ≡ y.taken.value
 
 -- Each incarnation that may take slots has read a log of chosen values to its last slot: places, members with their last kept numbers, and configurations are those of the log.
--- (The last kept numbers of members that were removed before a joiner's Add are not told to it. The configurations after `base`, from `low` on, are those that aren't forgotten.)
+-- (The last kept numbers of members that were removed before a joiner's Add are not told to it. The configurations of the slots to `base` are forgotten.)
 abbrev pub Follows : Group → World → Type 0
 Follows g w = (i : Inc) (n : Node) (t : Turns) → w.at i ≡ Some n → n.turns ≡ Some t
     → (log : List Value) × IsChosenLog g w.cast log × (t.slot ≡ length log)
     × (t.reading.place ≡ (after g log).place) × (t.reading.members ≡ (after g log).members) × (t.reading.ever ≡ (after g log).ever)
-    × ((s : ℕ) → t.base < s → t.low ≤ s → s ≤ t.slot + g.horizon → config_of t s ≡ Some (config g log s))
+    × ((s : ℕ) → t.base < s → s ≤ t.slot + g.horizon → config_of t s ≡ Some (config g log s))
 
 -- What each value taken became, kept at a place with effect or not, or skipped, is what it becomes after the log of chosen values before it.
 abbrev pub KeptAsInLog : Group → World → Type 0
