@@ -12,3 +12,4 @@ pub mod SourceLemmas
 pub mod SourcePacks
 pub mod UuidTakes
 pub mod TakeLemmas
+pub mod Scanning

@@ -1,13 +1,14 @@
 -- The runs at the front that are of one source, as that source.
 use Rattle.std.proofs.Common.{◌≡◌, ℕ, suc, ◌+◌, ◌≤◌, ◌<◌, Bool, true, false, List, [], ◌∷◌, ◌++◌, length, map, get_or, ◌-◌, length-drop, take, drop, refl, sym, ap, subst, ◌∙◌, ◌^◌, arith, append_assoc, add-zero}
 use Rattle.std.specs.List.{flat_map, AllByRecursion}
-use Rattle.std.proofs.lemmas.List.{take_all, get_or-drop, drop-drop, length-map}
+use Rattle.std.proofs.lemmas.List.{take_all, take_rest, get_or-drop, drop-drop, length-map}
 use Rattle.std.specs.Cmp.Lexicographic.{same_text, nat_list_eq_equiv}
 use Rattle.std.specs.Str.{bytes_eq}
 use Rattle.gtid_sets.specs.Sets.{Run, Gtids}
-use Rattle.gtid_sets.specs.Spelling.{Source, interval_of, with_first, sources_of, source_bytes}
+use Rattle.gtid_sets.specs.Spelling.{Source, interval_of, with_first, sources_of}
 use Rattle.gtid_sets.specs.Places.{runs_of_source}
 use Rattle.gtid_sets.specs.Pieces.{source_with}
+use Rattle.gtid_sets.specs.Text.{source_text, joined_text, sources_text, set_text}
 
 -- the sources, from the runs of the first one and those behind them
 pub first_source : (r : Run) (rs : Gtids) → sources_of (r ∷ rs) ≡ source_with r.source (r ∷ take (runs_of_source r.source rs) rs) ∷ sources_of (drop (runs_of_source r.source rs) rs)
@@ -74,14 +75,14 @@ first_at runs at n d lt e le =
 pub counted_on : (runs : Gtids) (at n : ℕ) (u : List ℕ) (count whole : ℕ) → FirstAt runs at n u → count + length (sources_of (drop at runs)) ≡ whole → count + 1 + length (sources_of (drop (at + n) runs)) ≡ whole
 counted_on runs at n u count whole f e = (let k : length (sources_of (drop at runs)) ≡ suc (length (sources_of (drop (at + n) runs))) = ap length f.is in omega arith)
 
-pub bytes_on : (runs : Gtids) (at n : ℕ) (u : List ℕ) (old new whole : List ℕ) → FirstAt runs at n u → new ≡ old ++ source_bytes (source_with u (take (at + n - at) (drop at runs)))
-    → old ++ flat_map source_bytes (sources_of (drop at runs)) ≡ whole → new ++ flat_map source_bytes (sources_of (drop (at + n) runs)) ≡ whole
-bytes_on runs at n u old new whole f put e =
+pub bytes_on : (spelling : Source → List ℕ) (runs : Gtids) (at n : ℕ) (u : List ℕ) (old new whole : List ℕ) → FirstAt runs at n u → new ≡ old ++ spelling (source_with u (take (at + n - at) (drop at runs)))
+    → old ++ flat_map spelling (sources_of (drop at runs)) ≡ whole → new ++ flat_map spelling (sources_of (drop (at + n) runs)) ≡ whole
+bytes_on spelling runs at n u old new whole f put e =
     let m : at + n - at ≡ n = omega arith in
-    let behind = flat_map source_bytes (sources_of (drop (at + n) runs)) in
-    let first = source_bytes (source_with u (take n (drop at runs))) in
-    let step : old ++ flat_map source_bytes (sources_of (drop at runs)) ≡ old ++ (first ++ behind) = ap (λ ss. old ++ flat_map source_bytes ss) f.is in
-    ap (λ xs. xs ++ behind) put ∙ ap (λ k. (old ++ source_bytes (source_with u (take k (drop at runs)))) ++ behind) m ∙ append_assoc old first behind ∙ sym step ∙ e
+    let behind = flat_map spelling (sources_of (drop (at + n) runs)) in
+    let first = spelling (source_with u (take n (drop at runs))) in
+    let step : old ++ flat_map spelling (sources_of (drop at runs)) ≡ old ++ (first ++ behind) = ap (λ ss. old ++ flat_map spelling ss) f.is in
+    ap (λ xs. xs ++ behind) put ∙ ap (λ k. (old ++ spelling (source_with u (take k (drop at runs)))) ++ behind) m ∙ append_assoc old first behind ∙ sym step ∙ e
 
 abbrev pub AreCounted : List Source → Type 0
 AreCounted ss = AllByRecursion (λ x. length x.intervals < 2 ^ 32) ss
@@ -94,3 +95,13 @@ counts_on runs at n u f fits h =
     let same : length (map interval_of (take n (drop at runs))) ≡ length (take n (drop at runs)) = length-map (take n (drop at runs)) interval_of in
     let small : length (map interval_of (take n (drop at runs))) < 2 ^ 32 = omega (arith, few, same) in
     subst AreCounted (sym f.is) (small, h)
+
+-- ---- the text of all runs
+
+pub text_whole : (runs : Gtids) (n : ℕ) (d : Run) (none first : List ℕ) → 0 < length runs → n ≡ runs_of_source (get_or runs 0 d).source runs → none ≡ [] → first ≡ none ++ source_text (source_with (get_or runs 0 d).source (take n runs))
+    → first ++ flat_map joined_text (sources_of (take (length runs - n) (drop n runs))) ≡ set_text runs
+text_whole runs n d none first some e empty put =
+    let f = first_of runs n d some e in
+    let behind = flat_map joined_text (sources_of (drop n runs)) in
+    ap (λ xs. first ++ flat_map joined_text (sources_of xs)) (take_rest runs n) ∙ ap (λ xs. xs ++ behind) (put ∙ ap (λ xs. xs ++ source_text (source_with (get_or runs 0 d).source (take n runs))) empty)
+    ∙ sym (ap sources_text f.0)

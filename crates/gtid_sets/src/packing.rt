@@ -11,7 +11,7 @@ use byte_forms::Packer;
 use gr_ids::Memory;
 
 /// How many runs at the front are of the source. Linear in them.
-fn len_of_source(runs: &[Run], source: [u8; 16]) -> usize
+pub(crate) fn len_of_source(runs: &[Run], source: [u8; 16]) -> usize
     ensures count { result ≡ runs_of_source source runs.now }
     ensures within { result ≤ length runs.now }
 {

@@ -1,15 +1,17 @@
 // A set of GTIDs as its longest runs.
 use crate::adding::put_gtid;
-use crate::faults::SetFault;
+use crate::faults::{SetFault, TextFault};
 use crate::packing::put_set;
+use crate::parsing::read_set;
 use crate::parts::{met, remaining};
 use crate::run::Run;
 use crate::search::runs_before;
 use crate::taking::take_set;
+use crate::text::text_of;
 use crate::union::merged;
 use crate::whole::{counted, covered};
 use byte_forms::{Cutter, Packer};
-use gr_ids::{Gtid, Memory};
+use gr_ids::{Blob, Gtid, Memory};
 use std::alloc::Global;
 use std::marker::Model;
 
@@ -34,11 +36,14 @@ impl Model for GtidSet {
 }
 
 impl GtidSet {
-    ghost use Rattle.std.specs.Prelude.{◌≡◌, ◌↔◌, [], ◌++◌, IsTrue, IfOk, IfErr, OnOk, OnErr};
+    ghost use Rattle.std.specs.Prelude.{◌≡◌, ◌↔◌, [], ◌++◌, IsTrue, IfOk, IfErr, OnOk, OnErr, Ok};
     ghost use Rattle.byte_forms.specs.Cuts.{Takes};
     ghost use Rattle.byte_forms.specs.Unreads.{Breaks};
     ghost use Rattle.gtid_sets.specs.Spelling.{set_bytes, next_set, HasCounts};
     ghost use Rattle.gtid_sets.specs.Pieces.{unread_of};
+    ghost use Rattle.gtid_sets.specs.Text.{set_text};
+    ghost use Rattle.gtid_sets.specs.Grammar.{set_of};
+    ghost use Rattle.gtid_sets.specs.Scans.{IsFaultOf};
     ghost use Rattle.gtid_sets.specs.Sets.{has, with_gtid, union, meet, minus, subset, count_of};
     ghost use Rattle.gtid_sets.specs.Canonical.{IsCanonical, IsNumber};
 
@@ -160,6 +165,25 @@ impl GtidSet {
         let mut ahead = from.fork();
         let runs = take_set(alloc, &mut ahead)?;
         *from = ahead;
+        Ok(GtidSet { runs })
+    }
+
+    /// The text: sources ascending, joined by commas, each its UUID in lower case and its runs as `:n` or `:n-m`
+    /// (MySQL 8.0 Reference Manual, GTID Sets). Linear in the runs.
+    pub fn write_text(&self, alloc: Global) -> Result<Blob, Memory>
+        ensures { IfOk result (λ text. text ≡ set_text self.now) }
+    {
+        Ok(Blob::from_vec(text_of(alloc, &self.runs)?))
+    }
+
+    /// Reads a text. Its intervals may come in any order, overlap and repeat; blanks may stand at both ends and around
+    /// commas, colons and dashes. Refused at the first fault. Linear in the text where its runs ascend; a run that
+    /// doesn't ascend costs as much as all before it.
+    pub fn parse(alloc: Global, text: &[u8]) -> Result<GtidSet, TextFault>
+        ensures ok { IfOk result (λ set. set_of text.now ≡ Ok set) }
+        ensures err { IfErr result (λ e. IsFaultOf text.now e) }
+    {
+        let runs = read_set(alloc, text)?;
         Ok(GtidSet { runs })
     }
 }
