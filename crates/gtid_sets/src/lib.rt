@@ -2,19 +2,27 @@
 #![tactic(auto)]
 
 mod adding;
+mod faults;
 mod fits;
 mod laws;
+mod numerals;
+mod packing;
+mod parsing;
 mod parts;
 mod run;
+mod scanner;
 mod search;
 mod set;
+mod taking;
+mod text;
 mod told;
 mod union;
 mod whole;
 
+pub use faults::{SetFault, TextFault};
 pub use laws::{
-    members_of_added, members_of_meet, members_of_minus, members_of_subset, members_of_union,
-    one_list_of_runs,
+    bytes_of_sets, members_of_added, members_of_meet, members_of_minus, members_of_subset,
+    members_of_union, one_list_of_runs,
 };
 pub use run::Run;
 pub use set::GtidSet;
