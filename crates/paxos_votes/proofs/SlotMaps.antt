@@ -1,6 +1,6 @@
 -- A map by slot, seen as a list kept by slot: f makes the element of an entry, which has the entry's key as its slot.
 use Rattle.std.proofs.Common.{◌≡◌, ℕ, ◌<◌, ◌≤◌, Bool, true, false, List, [], ◌∷◌, Option, Some, None, ltb, eqb, refl, sym, ap, ◌∙◌, arith, subst}
-use Rattle.std.specs.Prelude.{map, filter, nat_lt, nat_le, ◌==◌, option_map, is_some, cond, not, ◌&&◌, slice_get, length, IsSome, IfSome, IsSomeAnd}
+use Rattle.std.specs.Prelude.{map, nat_lt, nat_le, option_map, is_some, cond, not, ◌&&◌, slice_get, length, IsSome, IfSome, IsSomeAnd}
 use Rattle.std.specs.List.{All, AllByRecursion}
 use Rattle.std.specs.Ordering.{nat_cmp, is_le, is_gt, match_ordering}
 use Rattle.std.specs.Map.{lookup, keys_of}
@@ -9,7 +9,7 @@ use Rattle.std.specs.BTreeMap.Range.{entries_between, IsLeBy}
 use Rattle.std.specs.declared.ops.Bound.TheVariants.{Included, Excluded, Unbounded}
 use Rattle.std.specs.declared.cmp.Ordering.TheVariants.{Less, Equal, Greater}
 use Rattle.std.specs.declared.cmp.Ordering.{Ordering}
-use Rattle.std.proofs.lemmas.Bool.{ltb-true, ltb-false, lt-ltb, le-ltb, ne_eqb, eqb-true, eqb-false, eq-eqb}
+use Rattle.std.proofs.lemmas.Bool.{ltb-true, ltb-false, le-ltb, ne_eqb, eqb-true, eqb-false, eq-eqb}
 use Rattle.std.proofs.lemmas.Bool.Decides.{nat_tests}
 use Rattle.std.proofs.lemmas.List.Elements.{All-head, All-tail}
 use Rattle.node_rules.specs.Slots.{at_slot, put_slot, from_slot}

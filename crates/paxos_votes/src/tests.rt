@@ -51,8 +51,12 @@ fn an_acceptor_votes_at_or_above_its_promise(rt: HostRuntime) -> Result<(), Fail
     acceptor.vote(copied_vote(rt.alloc(), &own)?)?;
     acceptor.promise(ballot(6));
     let votes = acceptor.votes_from(rt.alloc(), 2)?;
-    let slots = votes.as_slice().iter().map(|vote| vote.slot);
-    assert_eq!(rt; slots.collect(rt.alloc())?.as_slice(), [2, 3, 4].as_slice());
+    let slots: Vec<u64> = votes
+        .as_slice()
+        .iter()
+        .map(|vote| vote.slot)
+        .collect(rt.alloc())?;
+    assert_eq!(rt; slots.as_slice(), [2, 3, 4].as_slice());
     Ok(())
 }
 

@@ -1,5 +1,5 @@
 -- The iterator goes over the entries of these slots.
-use Rattle.std.proofs.Common.{◌≡◌, List, ap, ◌∙◌, rules, ℕ}
+use Rattle.std.proofs.Common.{◌≡◌, ap, ◌∙◌, rules}
 use Rattle.std.specs.Prelude.{map}
 use Rattle.std.specs.Ordering.{nat_cmp}
 use Rattle.std.specs.Map.Iter.{deref_pair}

@@ -1,5 +1,4 @@
 -- The first slot is the least one.
-use Rattle.std.proofs.Common.{◌≡◌, ◌≤◌, refl}
 use Rattle.std.proofs.lemmas.Bool.{ltb-false}
 use Rattle.paxos_votes.proofs.SlotMaps.{all_from}
 use Rattle.paxos_votes.proofs.slot_maps.is_first_below.Goals as goal

@@ -1,5 +1,5 @@
 -- The vote goes to its place.
-use Rattle.std.proofs.Common.{◌≡◌, ap, ◌∙◌, List}
+use Rattle.std.proofs.Common.{ap, ◌∙◌, List}
 use Rattle.std.specs.Prelude.{map}
 use Rattle.node_rules.specs.Acceptor.{Acceptor}
 use Rattle.slot_values.specs.declared.value.Vote.{Vote}

@@ -1,5 +1,4 @@
 -- `next` passes the slots that have entries.
-use Rattle.std.proofs.Common.{◌∙◌}
 use Rattle.paxos_votes.proofs.Decided.{begun}
 use Rattle.paxos_votes.proofs.learner.Learner.begin.Goals as goal
 

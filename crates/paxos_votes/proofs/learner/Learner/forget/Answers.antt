@@ -1,5 +1,5 @@
 -- What stays are the entries from the slot on.
-use Rattle.std.proofs.Common.{◌≡◌, ℕ, ◌≤◌, List, sym, ap, ◌∙◌}
+use Rattle.std.proofs.Common.{◌≡◌, ◌≤◌, List, sym, ap, ◌∙◌}
 use Rattle.std.specs.Prelude.{map}
 use Rattle.slot_values.specs.Slots.{last_slot}
 use Rattle.node_rules.specs.Learner.{Learner}

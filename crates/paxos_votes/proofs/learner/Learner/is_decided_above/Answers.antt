@@ -1,5 +1,5 @@
 -- The last slot decides.
-use Rattle.std.proofs.Common.{◌≡◌, ℕ, sym, ◌∙◌, arith}
+use Rattle.std.proofs.Common.{sym}
 use Rattle.paxos_votes.proofs.Decided.{above_last}
 use Rattle.paxos_votes.proofs.learner.Learner.is_decided_above.Goals as goal
 

@@ -1,7 +1,5 @@
 -- The entries of the ten slots.
-use Rattle.std.proofs.Common.{◌∙◌, sym, ap}
-use Rattle.std.specs.Prelude.{map}
-use Rattle.paxos_votes.specs.Entries.{entry_in}
+use Rattle.std.proofs.Common.{◌∙◌, sym}
 use Rattle.paxos_votes.proofs.Decided.{known_is, none_known}
 use Rattle.paxos_votes.proofs.learner.Learner.known_from.Goals as goal
 

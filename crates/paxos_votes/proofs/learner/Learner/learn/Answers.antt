@@ -1,6 +1,5 @@
 -- The entry goes to its place, and `next` passes the slots that have entries.
-use Rattle.std.proofs.Common.{◌≡◌, ℕ, ◌≤◌, false, sym, ◌∙◌}
-use Rattle.std.specs.List.{AllByRecursion}
+use Rattle.std.proofs.Common.{◌≡◌, ◌≤◌, false, sym, ◌∙◌}
 use Rattle.slot_values.specs.Slots.{last_slot}
 use Rattle.node_rules.specs.Learner.{is_decided}
 use Rattle.paxos_votes.proofs.SlotMaps.{each_put}
