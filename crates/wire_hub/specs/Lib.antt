@@ -1,0 +1,3 @@
+pub mod Spelt
+pub mod Letters
+pub mod Posts
