@@ -7,7 +7,7 @@ use mathlib.Core.Option.{some, some-injective, some-ne-none}
 use mathlib.Core.List.{IsPrefix}
 use lib.ListN.{get_elem?}
 use Rattle.gr_ids.specs.declared.names.Inc.{Inc}
-use Rattle.gr_ids.specs.Names.{inc_eq}
+use Rattle.gr_ids.specs.Names.{inc_eq, has_inc}
 use Rattle.crossbeam_queue.specs.Fifo.{Pushes, Pops, Forks, Merges, Learns}
 use Rattle.crossbeam_queue.proofs.Lists.{at_set}
 use Rattle.wire_hub.specs.declared.letter.Letter.{Letter}
@@ -16,8 +16,8 @@ use Rattle.wire_hub.specs.declared.view.Told.{Told}
 use Rattle.wire_hub.specs.declared.view.Role.{Role}
 use Rattle.wire_hub.specs.declared.view.Role.TheVariants.{Taker, Sender, Note}
 use Rattle.wire_hub.specs.Letters.{of, rises, last_index}
-use Rattle.wire_hub.specs.Posts.{Knows, Fits, Posted, TrueOf, taker, no_one, note, with_letter, sent, taken, emptied, owned, owning, past, newcomer, told_of, told_own, hears}
-use Rattle.wire_hub.proofs.Lists.{same_inc, eq_self, either_way, eq_apart, prefix_self, prefix_more, of-append, of_next, of_same, none_sent, rises_next, rises_begun, each_set, each_end}
+use Rattle.wire_hub.specs.Posts.{Knows, Fits, Posted, TrueOf, taker, no_one, note, with_letter, sent, taken, emptied, owned, owning, making, newcomer, told_of, told_own, hears}
+use Rattle.wire_hub.proofs.Lists.{same_inc, eq_self, either_way, true_not_false, not_among, was_sent, eq_apart, prefix_self, prefix_more, of-append, of_next, of_same, none_sent, rises_next, rises_begun, each_set, each_end}
 
 module _ {A : Type 0} where
   none_apart : (o : Option A) (a : A) → o ≡ None → o ≡ Some a → ⊥
@@ -72,11 +72,11 @@ module _ (reader : ℕ) (seat : Inc → Option ℕ) (owner : Inc) where
 
 -- ---- the steps
 
-pub begins : Posted [] (taker no_one 0 [] [] ∷ [])
+pub begins : Posted [] (taker no_one [] [] [] ∷ [])
 begins = (0, λ p. None, no_one, [], All-nil _, λ p. refl, only)
   where
-    only : (j : ℕ) (u : View) → get_elem? (taker no_one 0 [] [] ∷ []) j ≡ some u → Fits 0 (λ p. None) no_one [] [] j u
-    only zero u e = subst (Fits 0 (λ p. None) no_one [] [] 0) (some-injective (taker no_one 0 [] []) u e) (All-nil _, (refl, refl, refl, λ p low. (refl, refl)))
+    only : (j : ℕ) (u : View) → get_elem? (taker no_one [] [] [] ∷ []) j ≡ some u → Fits 0 (λ p. None) no_one [] [] j u
+    only zero u e = subst (Fits 0 (λ p. None) no_one [] [] 0) (some-injective (taker no_one [] [] []) u e) (All-nil _, (refl, refl, refl, λ p low. (refl, refl)))
     only (suc j) u e = absurd (some-ne-none u (sym e))
 
 pub sends : (n pass : ℕ) (v : View) (x : Letter) → v.role ≡ Sender → x.from ≡ v.name → x.to ≡ v.owner → last_index 0 v.letters < x.index → Pushes Posted n pass v x (sent v x)
@@ -115,6 +115,7 @@ takes pass v is x items views h at =
     let each : (j : ℕ) (u : View) → get_elem? (set views pass w) j ≡ some u → Fits h.0 h.1 h.2 got all j u = each_set (Fits h.0 h.1 h.2 got all) views pass w
         ((h.6 pass v at).0, subst (λ (r : Role). Knows h.0 h.1 h.2 got all pass w r) (sym is) knows)
         (λ j u apart e. ((h.6 j u e).0, knows_taken h.0 h.1 h.2 h.3 got all pass mine.0 j u u.role apart (h.6 j u e).1)) in
+    let made : has_inc v.senders x.from ≡ true = ⊎_elim (λ (e : has_inc v.senders x.from ≡ true). e) (λ (e : has_inc v.senders x.from ≡ false). absurd (was_sent h.3 items x (mine.3 x.from e).1)) (either_way (has_inc v.senders x.from)) in
     let rise : (p : Inc) → rises 0 (of p (got ++ items)) ≡ true = λ p. subst (λ (l : List Letter). rises 0 (of p l) ≡ true) (sym same) (h.5 p) in (
       w,
       (
@@ -129,6 +130,7 @@ takes pass v is x items views h at =
       (
         refl,
         middle (λ (y : Letter). y.to ≡ h.2) h.3 items x h.4 ∙ sym mine.1,
+        made,
         λ p. subst (λ (l : List Letter). rises 0 (of p (l ++ x ∷ [])) ≡ true) (sym mine.2) (rises_begun 0 (of p got) (of p items) (subst (λ (l : List Letter). rises 0 l ≡ true) (of-append p got items) (rise p))),
       ),
     )
@@ -145,10 +147,10 @@ owns pass v is items views h at =
     All-weaker (λ (t : Told). IsPrefix t.letters (of t.name all)) (λ (t : Told). t.name ≡ v.name → IsPrefix t.letters v.letters)
         (λ t p e. subst (λ (l : List Letter). IsPrefix t.letters l) (ap (λ q. of q all) e ∙ sym mine.2) p) v.told (h.6 pass v at).0
 
-pub names : (p : Inc) (pass : ℕ) (v : View) → v.role ≡ Taker → v.next ≡ 0 → Forks Posted pass v (owning p v) (note [])
+pub names : (p : Inc) (pass : ℕ) (v : View) → v.role ≡ Taker → v.senders ≡ [] → Forks Posted pass v (owning p v) (note [])
 names p pass v is new items views h at =
     let all : List Letter = h.3 ++ items in let w : View = owning p v in let mine = own h.0 h.1 h.2 h.3 all pass v Taker is (h.6 pass v at) in
-    let low : (q : Inc) → v.next ≤ q.server = λ q. omega (arith, new) in
+    let low : (q : Inc) → has_inc v.senders q ≡ false = λ q. ap (λ (l : List Inc). has_inc l q) new in
     let empty : all ≡ [] = none_sent all (λ q. (mine.3 q (low q)).1) in
     let knows : Knows h.0 h.1 p h.3 all pass w Taker = (mine.0, refl, mine.2, mine.3) in
     let others : (j : ℕ) (u : View) (role : Role) → j ≢ pass → Knows h.0 h.1 h.2 h.3 all j u role → Knows h.0 h.1 p h.3 all j u role = λ j u role. elim role as (λ r. j ≢ pass → Knows h.0 h.1 h.2 h.3 all j u r → Knows h.0 h.1 p h.3 all j u r) [
@@ -168,9 +170,9 @@ names p pass v is new items views h at =
           (λ j u apart e. ((h.6 j u e).0, others j u u.role apart (h.6 j u e).1))),
     )
 
-pub makes : (p : Inc) (pass : ℕ) (v : View) → v.role ≡ Taker → v.next ≤ p.server → Forks Posted pass v (past p v) (newcomer p v)
+pub makes : (p : Inc) (pass : ℕ) (v : View) → v.role ≡ Taker → has_inc v.senders p ≡ false → Forks Posted pass v (making p v) (newcomer p v)
 makes p pass v is low items views h at =
-    let all : List Letter = h.3 ++ items in let w : View = past p v in let mine = own h.0 h.1 h.2 h.3 all pass v Taker is (h.6 pass v at) in
+    let all : List Letter = h.3 ++ items in let w : View = making p v in let mine = own h.0 h.1 h.2 h.3 all pass v Taker is (h.6 pass v at) in
     let vs : List View = set views pass w in
     let seat : Inc → Option ℕ = λ q. cond (inc_eq p q) (Some (length vs)) (h.1 q) in
     let new : seat p ≡ Some (length vs) = ap (λ (b : Bool). cond b (Some (length vs)) (h.1 p)) (eq_self p) in
@@ -179,7 +181,7 @@ makes p pass v is low items views h at =
       mine.0,
       mine.1,
       mine.2,
-      λ q high. let rest = mine.3 q (omega (arith, high, low)) in (old q (λ e. let s : p.server ≡ q.server = ap (λ (i : Inc). i.server) e in omega (arith, high, s)) ∙ rest.0, rest.1),
+      λ q not. let k = not_among v.senders p q not in let rest = mine.3 q k.0 in (old q (λ e. true_not_false (inc_eq p q) (subst (λ (i : Inc). inc_eq p i ≡ true) e (eq_self p)) k.1) ∙ rest.0, rest.1),
     ) in
     let others : (j : ℕ) (u : View) (role : Role) → j ≢ pass → Knows h.0 h.1 h.2 h.3 all j u role → Knows h.0 seat h.2 h.3 all j u role = λ j u role. elim role as (λ r. j ≢ pass → Knows h.0 h.1 h.2 h.3 all j u r → Knows h.0 seat h.2 h.3 all j u r) [
       Taker ↦ λ apart k. absurd (apart (k.0 ∙ sym mine.0))

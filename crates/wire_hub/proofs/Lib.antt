@@ -1,2 +1,4 @@
 pub mod Lists
 pub mod Keeps
+pub mod Maps
+pub mod Ties

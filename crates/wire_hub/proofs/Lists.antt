@@ -1,13 +1,15 @@
 -- Lists of letters, and lists of views.
-use Rattle.std.proofs.Common.{◌≡◌, ◌≢◌, ℕ, zero, suc, ◌+◌, ◌<◌, ◌⊎◌, inl, inr, ⊎_elim, Bool, true, false, eqb, eqb-true, eq-eqb, List, [], ◌∷◌, ◌++◌, length, set, sym, refl, ap, ◌∙◌, subst, arith, append_assoc, append-nil}
+use Rattle.std.proofs.Common.{◌≡◌, ◌≢◌, ℕ, zero, suc, ◌+◌, ◌<◌, ◌⊎◌, inl, inr, ⊎_elim, Bool, true, false, ◌||◌, true≢false, eqb, eqb-true, eq-eqb, List, [], ◌∷◌, ◌++◌, length, set, sym, refl, ap, ◌∙◌, subst, arith, append_assoc, append-nil}
 use Rattle.std.proofs.Math.Dec.{ltb}
 use Rattle.std.proofs.lemmas.Bool.{and_parts, and_from, lt-ltb}
+use Rattle.std.specs.List.{list_any}
 use Rattle.std.proofs.lemmas.List.Elements.{filter-append}
+use Rattle.std.proofs.lemmas.List.Folds.{list_any-append}
 use mathlib.Core.Option.{some, some-ne-none}
 use mathlib.Core.List.{IsPrefix}
 use lib.ListN.{get_elem?}
 use Rattle.gr_ids.specs.declared.names.Inc.{Inc}
-use Rattle.gr_ids.specs.Names.{inc_eq}
+use Rattle.gr_ids.specs.Names.{inc_eq, has_inc}
 use Rattle.crossbeam_queue.proofs.Lists.{at_set}
 use Rattle.wire_hub.specs.declared.letter.Letter.{Letter}
 use Rattle.wire_hub.specs.declared.view.View.{View}
@@ -27,6 +29,19 @@ either_way false = inr refl
 
 pub eq_apart : (p q : Inc) → (p ≡ q → ⊥) → inc_eq p q ≡ false
 eq_apart p q apart = ⊎_elim (λ (h : inc_eq p q ≡ true). absurd (apart (same_inc p q h))) (λ (h : inc_eq p q ≡ false). h) (either_way (inc_eq p q))
+
+pub true_not_false : (b : Bool) → b ≡ true → b ≡ false → ⊥
+true_not_false b t f = true≢false (sym t ∙ f)
+
+or_none : (a b : Bool) → (a || b) ≡ false → (a ≡ false) × (b ≡ false)
+or_none false b h = (refl, h)
+or_none true b h = absurd (true≢false h)
+
+pub not_among : (xs : List Inc) (p q : Inc) → has_inc (xs ++ p ∷ []) q ≡ false → (has_inc xs q ≡ false) × (inc_eq p q ≡ false)
+not_among xs p q h =
+    let f : Inc → Bool = λ x. inc_eq x q in
+    let k = or_none (list_any f xs) (list_any f (p ∷ [])) (sym (list_any-append f xs (p ∷ [])) ∙ h) in
+    (k.0, (or_none (inc_eq p q) false k.1).0)
 
 -- ---- beginnings
 
@@ -56,6 +71,14 @@ of_next p xs x e = of-append p xs (x ∷ []) ∙ ap (λ w. of p xs ++ w) (of_min
 
 pub of_same : (p : Inc) (xs : List Letter) (x : Letter) → inc_eq p x.from ≡ false → of p (xs ++ x ∷ []) ≡ of p xs
 of_same p xs x e = of-append p xs (x ∷ []) ∙ (ap (λ w. of p xs ++ w) (of_other p x e) ∙ append-nil (of p xs))
+
+-- a letter is among those of its sender
+pub was_sent : (xs ys : List Letter) (x : Letter) → of x.from (xs ++ x ∷ ys) ≡ [] → ⊥
+was_sent [] ys x e = let is : of x.from (x ∷ ys) ≡ x ∷ of x.from ys = rw (eq_self x.from) in cc (e, is)
+was_sent (y ∷ xs) ys x e = ⊎_elim
+    (λ (h : inc_eq x.from y.from ≡ true). let is : of x.from (y ∷ (xs ++ x ∷ ys)) ≡ y ∷ of x.from (xs ++ x ∷ ys) = rw h in cc (e, is))
+    (λ (h : inc_eq x.from y.from ≡ false). let is : of x.from (y ∷ (xs ++ x ∷ ys)) ≡ of x.from (xs ++ x ∷ ys) = rw h in was_sent xs ys x (sym is ∙ e))
+    (either_way (inc_eq x.from y.from))
 
 -- where no one has sent, nothing was sent
 pub none_sent : (xs : List Letter) → ((p : Inc) → of p xs ≡ []) → xs ≡ []

@@ -1,3 +1,4 @@
 pub mod Spelt
 pub mod Letters
 pub mod Posts
+pub mod Passes

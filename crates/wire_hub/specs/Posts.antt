@@ -1,10 +1,11 @@
 -- The rule of a mailbox, which holds between any two of its atomic steps, and what each step tells.
-use Rattle.std.specs.Prelude.{◌≡◌, ℕ, ◌+◌, ◌≤◌, true, List, [], ◌∷◌, ◌++◌, Option, Some, None}
+use Rattle.std.specs.Prelude.{◌≡◌, ℕ, true, false, List, [], ◌∷◌, ◌++◌, Option, Some, None}
 use Rattle.std.specs.List.{All}
 use mathlib.Core.Option.{some}
 use mathlib.Core.List.{IsPrefix}
 use lib.ListN.{get_elem?}
 use Rattle.gr_ids.specs.declared.names.Inc.{Inc}
+use Rattle.gr_ids.specs.Names.{has_inc}
 use Rattle.wire_hub.specs.declared.letter.Letter.{Letter}
 use Rattle.wire_hub.specs.declared.view.View.{View}
 use Rattle.wire_hub.specs.declared.view.Told.{Told}
@@ -15,14 +16,14 @@ use Rattle.wire_hub.specs.Letters.{of, rises}
 abbrev pub no_one : Inc
 no_one = record { server = 0; start = 0 }
 
-abbrev pub taker : Inc → ℕ → List Letter → List Told → View
-taker owner next got told = record { role = Taker; owner = owner; name = no_one; next = next; letters = got; told = told }
+abbrev pub taker : Inc → List Inc → List Letter → List Told → View
+taker owner senders got told = record { role = Taker; owner = owner; name = no_one; senders = senders; letters = got; told = told }
 
 abbrev pub sender : Inc → Inc → List Letter → List Told → View
-sender owner name sent told = record { role = Sender; owner = owner; name = name; next = 0; letters = sent; told = told }
+sender owner name sent told = record { role = Sender; owner = owner; name = name; senders = []; letters = sent; told = told }
 
 abbrev pub note : List Told → View
-note told = record { role = Note; owner = no_one; name = no_one; next = 0; letters = []; told = told }
+note told = record { role = Note; owner = no_one; name = no_one; senders = []; letters = []; told = told }
 
 -- each list that was told of begins what its sender has in these letters
 abbrev pub TrueOf : List Letter → List Told → Type 0
@@ -33,7 +34,7 @@ TrueOf letters told = All (λ t. IsPrefix t.letters (of t.name letters)) told
 -- `all` is what was ever sent to the mailbox, of which the taker got a beginning. Each sender has one pass, which knows all that it sent
 abbrev pub Knows : ℕ → (Inc → Option ℕ) → Inc → List Letter → List Letter → ℕ → View → Role → Type 0
 Knows reader seat owner got all pass v Taker =
-    (pass ≡ reader) × (v.owner ≡ owner) × (v.letters ≡ got) × ((p : Inc) → v.next ≤ p.server → (seat p ≡ None) × (of p all ≡ []))
+    (pass ≡ reader) × (v.owner ≡ owner) × (v.letters ≡ got) × ((p : Inc) → has_inc v.senders p ≡ false → (seat p ≡ None) × (of p all ≡ []))
 Knows reader seat owner got all pass v Sender = (seat v.name ≡ Some pass) × (v.owner ≡ owner) × (v.letters ≡ of v.name all)
 Knows reader seat owner got all pass v Note = Unit {0}
 
@@ -57,9 +58,9 @@ with_letter v x = record v { letters = v.letters ++ x ∷ [] }
 abbrev pub sent : View → Letter → View → Type 0
 sent v x w = w ≡ with_letter v x
 
--- the first letter was taken: it is addressed to the owner, and each sender's letters that were taken still rise
+-- the first letter was taken: it is addressed to the owner, a sender that was made sent it, and each sender's letters that were taken still rise
 abbrev pub taken : View → Letter → View → Type 0
-taken v x w = (w ≡ with_letter v x) × (x.to ≡ v.owner) × ((p : Inc) → rises 0 (of p (v.letters ++ x ∷ [])) ≡ true)
+taken v x w = (w ≡ with_letter v x) × (x.to ≡ v.owner) × (has_inc v.senders x.from ≡ true) × ((p : Inc) → rises 0 (of p (v.letters ++ x ∷ [])) ≡ true)
 
 -- the mailbox was empty: all that the taker was told of, it has taken
 abbrev pub emptied : View → List Letter → Type 0
@@ -74,8 +75,8 @@ owned v items = All (λ t. t.name ≡ v.name → IsPrefix t.letters v.letters) v
 abbrev pub owning : Inc → View → View
 owning p v = record v { owner = p }
 
-abbrev pub past : Inc → View → View
-past p v = record v { next = p.server + 1 }
+abbrev pub making : Inc → View → View
+making p v = record v { senders = v.senders ++ p ∷ [] }
 
 abbrev pub newcomer : Inc → View → View
 newcomer p v = sender v.owner p [] []

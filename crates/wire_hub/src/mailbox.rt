@@ -1,10 +1,11 @@
 // One mailbox: each call is one step of its queue, or two.
-ghost use Rattle.std.specs.Prelude.{◌≡◌, ◌≤◌, ◌<◌, [], IfOk, MatchResult, MatchOption};
+ghost use Rattle.std.specs.Prelude.{◌≡◌, ◌<◌, true, false, [], IfOk, MatchResult, MatchOption};
 ghost use mathlib.Core.List.{IsPrefix};
+ghost use Rattle.gr_ids.specs.Names.{has_inc};
 ghost use Rattle.crossbeam_queue.specs.SegTies.{IsSegPassOf};
 ghost use Rattle.wire_hub.specs.declared.view.Role.TheVariants.{Taker};
 ghost use Rattle.wire_hub.specs.Letters.{of, last_index};
-ghost use Rattle.wire_hub.specs.Posts.{taker, with_letter, owning, past, newcomer, told_of, told_own, hears, TrueOf};
+ghost use Rattle.wire_hub.specs.Posts.{taker, with_letter, owning, making, newcomer, told_of, told_own, hears, TrueOf};
 
 use crate::letter::Letter;
 use crate::passes::{Line, Mailbox, Port, Seat, TakePass};
@@ -17,7 +18,7 @@ use std::sync::Wait;
 // The new queue gets its owner.
 fn name_owner<J: Named>(line: &Line, seat: &mut Seat, owner: Inc)
     requires name { J.name ≡ owner }
-    requires new { IsSegPassOf line.now seat.old × (seat.old.me.view.client.role ≡ Taker) × (seat.old.me.view.client.next ≡ 0) }
+    requires new { IsSegPassOf line.now seat.old × (seat.old.me.view.client.role ≡ Taker) × (seat.old.me.view.client.senders ≡ []) }
     ensures { IsSegPassOf line.now seat.new × (seat.new.me.view.client ≡ owning owner seat.old.me.view.client) }
 {
     line.another::<Owning<J>>(seat);
@@ -26,8 +27,8 @@ fn name_owner<J: Named>(line: &Line, seat: &mut Seat, owner: Inc)
 // The taker makes the pass of a sender.
 fn name_sender<J: Named>(line: &Line, seat: &mut Seat, name: Inc) -> Seat
     requires name { J.name ≡ name }
-    requires room { IsSegPassOf line.now seat.old × (seat.old.me.view.client.role ≡ Taker) × (seat.old.me.view.client.next ≤ name.server) }
-    ensures taker { IsSegPassOf line.now seat.new × (seat.new.me.view.client ≡ past name seat.old.me.view.client) }
+    requires room { IsSegPassOf line.now seat.old × (seat.old.me.view.client.role ≡ Taker) × (has_inc seat.old.me.view.client.senders name ≡ false) }
+    ensures taker { IsSegPassOf line.now seat.new × (seat.new.me.view.client ≡ making name seat.old.me.view.client) }
     ensures sender { IsSegPassOf line.now result × (result.me.view.client ≡ newcomer name seat.old.me.view.client) }
 {
     line.another::<Making<J>>(seat)
@@ -50,17 +51,17 @@ impl Mailbox {
         owner: Inc,
         at: usize,
     ) -> Result<(Mailbox, TakePass), Memory>
-        ensures { IfOk result (λ r. IsSegPassOf r.0.line r.1.seat × (r.1.at ≡ at) × (r.1.seat.me.view.client ≡ taker owner 0 [] [])) }
+        ensures { IfOk result (λ r. IsSegPassOf r.0.line r.1.seat × (r.1.at ≡ at) × (r.1.seat.me.view.client ≡ taker owner [] [] [])) }
     {
         let (line, mut seat) = Line::with_rule(alloc)?;
         name_owner::<Brand>(&line, &mut seat, owner);
         Ok((Mailbox { line }, TakePass { at, seat }))
     }
 
-    // The pass of a sender. Senders are made by ascending server.
+    // The pass of a sender that wasn't made yet.
     pub(crate) fn port(&self, take: &mut TakePass, name: Inc) -> Port
-        requires { IsSegPassOf self.now.line take.old.seat × (take.old.seat.me.view.client.next ≤ name.server) }
-        ensures taker { IsSegPassOf self.now.line take.new.seat × (take.new.at ≡ take.old.at) × (take.new.seat.me.view.client ≡ past name take.old.seat.me.view.client) }
+        requires { IsSegPassOf self.now.line take.old.seat × (has_inc take.old.seat.me.view.client.senders name ≡ false) }
+        ensures taker { IsSegPassOf self.now.line take.new.seat × (take.new.at ≡ take.old.at) × (take.new.seat.me.view.client ≡ making name take.old.seat.me.view.client) }
         ensures sender { IsSegPassOf self.now.line result.seat × (result.seat.me.view.client ≡ newcomer name take.old.seat.me.view.client) }
     {
         let seat = name_sender::<Brand>(&self.line, &mut take.seat, name);
@@ -87,7 +88,7 @@ impl Mailbox {
     pub(crate) fn take<R: Wait>(&self, rt: &R, take: &mut TakePass) -> Option<Letter>
         requires { IsSegPassOf self.now.line take.old.seat }
         ensures same { IsSegPassOf self.now.line take.new.seat × (take.new.at ≡ take.old.at) }
-        ensures taken { MatchOption result ((take.new.seat.me.view.client ≡ take.old.seat.me.view.client) × TrueOf take.old.seat.me.view.client.letters take.old.seat.me.view.client.told) (λ x. (take.new.seat.me.view.client ≡ with_letter take.old.seat.me.view.client x) × (x.to ≡ take.old.seat.me.view.client.owner)) }
+        ensures taken { MatchOption result ((take.new.seat.me.view.client ≡ take.old.seat.me.view.client) × TrueOf take.old.seat.me.view.client.letters take.old.seat.me.view.client.told) (λ x. (take.new.seat.me.view.client ≡ with_letter take.old.seat.me.view.client x) × (x.to ≡ take.old.seat.me.view.client.owner) × (has_inc take.old.seat.me.view.client.senders x.from ≡ true)) }
     {
         self.line.pop_as::<Taken, R>(rt, &mut take.seat)
     }

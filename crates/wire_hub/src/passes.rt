@@ -2,6 +2,7 @@
 ghost use Rattle.std.specs.Prelude.{◌≡◌, ◌≤◌, true, None, length};
 ghost use Rattle.std.specs.List.{All};
 ghost use Rattle.gr_ids.specs.declared.names.Inc.{Inc};
+ghost use Rattle.gr_ids.specs.Names.{has_inc};
 ghost use Rattle.wire_hub.specs.declared.view.Role.TheVariants.{Taker, Sender};
 ghost use Rattle.wire_hub.specs.Letters.{of, rises, last_index};
 
@@ -52,6 +53,7 @@ pub struct TakePass {
     pub(crate) at: usize,
     pub(crate) seat: Seat,
     ghost takes: { (seat.me.view.client.role ≡ Taker) × (seat.me.hand ≡ None) × (seat.me.spare ≡ None) },
+    ghost known: { All (λ x. has_inc seat.me.view.client.senders x.from ≡ true) seat.me.view.client.letters },
     ghost rising: { (p : Inc) → rises 0 (of p seat.me.view.client.letters) ≡ true },
 }
 

@@ -14,7 +14,7 @@ impl Protocol<Letter, View> for Posts {
 
     ghost holds = { Posted };
 
-    ghost first = { taker no_one 0 [] [] };
+    ghost first = { taker no_one [] [] [] };
 }
 
 /// A name that a call picks.
@@ -81,9 +81,9 @@ pub struct Making<J> {
 }
 
 impl<J: Named> Split<View> for Making<J> {
-    ghost use Rattle.wire_hub.specs.Posts.{past, newcomer};
+    ghost use Rattle.wire_hub.specs.Posts.{making, newcomer};
 
-    ghost left = { past J.name };
+    ghost left = { making J.name };
 
     ghost right = { newcomer J.name };
 }

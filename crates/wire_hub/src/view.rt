@@ -26,8 +26,8 @@ pub struct View {
     pub owner: Inc,
     /// Of a sender: its name.
     pub name: Inc,
-    /// Of the taker: the senders of the servers from this number on weren't made yet.
-    pub next: u64,
+    /// Of the taker: the senders that it has made.
+    pub senders: LinkedList<Inc>,
     /// Of a sender what it has sent, of the taker what it has taken.
     pub letters: LinkedList<Letter>,
     /// What it was told of the senders.
