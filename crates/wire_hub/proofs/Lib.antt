@@ -2,3 +2,4 @@ pub mod Lists
 pub mod Keeps
 pub mod Maps
 pub mod Ties
+pub mod Openings

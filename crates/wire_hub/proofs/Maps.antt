@@ -23,3 +23,8 @@ module _ {A B : Type 0} (f : A → B) where
   map_within [] k y e = absurd (cc e)
   map_within (z ∷ zs) zero y e = omega arith
   map_within (z ∷ zs) (suc k) y e = let r = map_within zs k y e in omega arith
+
+  pub map_under : (xs : List A) (k : ℕ) (y : B) → slice_get (map f xs) k ≡ Some y → (x : A) × (slice_get xs k ≡ Some x) × (f x ≡ y)
+  map_under [] k y e = absurd (cc e)
+  map_under (z ∷ zs) zero y e = (z, refl, cc e)
+  map_under (z ∷ zs) (suc k) y e = map_under zs k y e

@@ -8,6 +8,7 @@
 mod hub;
 mod letter;
 mod mailbox;
+mod opening;
 mod passes;
 mod plays;
 mod view;
