@@ -33,6 +33,10 @@ eq_apart p q apart = ⊎_elim (λ (h : inc_eq p q ≡ true). absurd (apart (same
 pub true_not_false : (b : Bool) → b ≡ true → b ≡ false → ⊥
 true_not_false b t f = true≢false (sym t ∙ f)
 
+pub neither : (a b : Bool) → a ≡ false → b ≡ false → (a || b) ≡ false
+neither false b p q = q
+neither true b p q = absurd (true≢false p)
+
 or_none : (a b : Bool) → (a || b) ≡ false → (a ≡ false) × (b ≡ false)
 or_none false b h = (refl, h)
 or_none true b h = absurd (true≢false h)

@@ -1,23 +1,29 @@
 -- How the parts of a hub grow while it is made.
-use Rattle.std.proofs.Common.{◌≡◌, ℕ, zero, suc, ◌+◌, ◌<◌, ◌≤◌, ◌⊎◌, inl, inr, ⊎_elim, false, List, [], ◌∷◌, ◌++◌, length, set, get_or, map, take, drop, sym, refl, ap, ◌∙◌, subst, arith, Option, Some, slice_get, length-append}
+use Rattle.std.proofs.Common.{◌≡◌, ℕ, zero, suc, ◌+◌, ◌<◌, ◌≤◌, ◌⊎◌, inl, inr, ⊎_elim, Bool, true, false, List, [], ◌∷◌, ◌++◌, length, set, get_or, map, take, drop, sym, refl, ap, ◌∙◌, subst, arith, Option, Some, slice_get, length-append}
 use Rattle.std.specs.List.{All}
 use Rattle.std.specs.declared.alloc.Global.{Global}
-use Rattle.std.proofs.lemmas.List.{map-append, map-set, take_more}
+use Rattle.std.proofs.lemmas.List.{map-append, map-id, map-set, take_more}
+use Rattle.std.proofs.Math.Dec.{ltb}
+use Rattle.std.proofs.lemmas.Bool.{and_parts, ltb-true}
 use Rattle.std.proofs.lemmas.List.Edits.{map_over_more}
 use Rattle.std.proofs.lemmas.List.Elements.{All-nil, All-cons, All-head, All-tail, All-map, All-take}
 use Rattle.std.proofs.lemmas.Option.{slice_get_within, get_or_from_slice_get, slice_get-map}
 use Rattle.crossbeam_queue.specs.SegTies.{SegId}
 use Rattle.gr_ids.specs.declared.names.Inc.{Inc}
-use Rattle.gr_ids.specs.Names.{has_inc}
+use Rattle.gr_ids.specs.Names.{inc_eq, has_inc}
+use Rattle.wire_hub.specs.declared.letter.Letter.{Letter}
 use Rattle.wire_hub.specs.declared.view.View.{View}
+use Rattle.wire_hub.specs.declared.passes.Hub.{Hub}
 use Rattle.wire_hub.specs.declared.passes.Mailbox.{Mailbox}
 use Rattle.wire_hub.specs.declared.passes.Port.{Port}
 use Rattle.wire_hub.specs.declared.passes.TakePass.{TakePass}
 use Rattle.wire_hub.specs.Letters.{last_index}
-use Rattle.wire_hub.specs.Posts.{making, newcomer}
+use Rattle.wire_hub.specs.Posts.{taker, making, newcomer}
 use Rattle.std.specs.Option.{option_map}
-use Rattle.wire_hub.specs.Passes.{queue_of}
+use Rattle.wire_hub.specs.Passes.{ascends, queues, queue_of, owner_of, take_owner, got, told, IsTakePassOf}
 use Rattle.wire_hub.specs.Opening.{AreInOrder, box_queue, take_queue, take_tie, take_view, port_view}
+use Rattle.wire_hub.proofs.Lists.{eq_apart, neither}
+use Rattle.wire_hub.proofs.Ties.{letters_of}
 use Rattle.wire_hub.proofs.Maps.{map_kept, map_read, map_at, map_under}
 
 module _ {A : Type 0} where
@@ -119,3 +125,57 @@ pub new_own : (ports : List Port) (name : Inc) (n : ℕ) (views : List View) →
 new_own ports name n views so =
     let P : View → Type 0 = λ v. (v.name ≡ name) × (last_index 0 v.letters ≤ 0) in
     all_under port_view P ports (subst (All P) (sym so) (All-take P n (map (newcomer name) views) (All-map P (newcomer name) views (λ j d l. (refl, omega arith)))))
+
+-- ---- the members ascend, so each is new
+
+above : (n : ℕ) (xs : List Inc) (k : ℕ) (d : Inc) → ascends n xs ≡ true → k < length xs → n < (get_or xs k d).server
+above n [] k d up l = absurd (omega arith)
+above n (x ∷ xs) zero d up l = ltb-true n x.server (and_parts (ltb n x.server) (ascends x.server xs) up).0
+above n (x ∷ xs) (suc k) d up l =
+    let h = and_parts (ltb n x.server) (ascends x.server xs) up in let low = ltb-true n x.server h.0 in let high = above x.server xs k d h.1 (omega arith) in omega (arith, low, high)
+
+pub is_new : (n : ℕ) (xs : List Inc) (k : ℕ) (d : Inc) → ascends n xs ≡ true → k < length xs → has_inc (take k xs) (get_or xs k d) ≡ false
+is_new n [] k d up l = absurd (omega arith)
+is_new n (x ∷ xs) zero d up l = refl
+is_new n (x ∷ xs) (suc k) d up l =
+    let h = and_parts (ltb n x.server) (ascends x.server xs) up in let high = above x.server xs k d h.1 (omega arith) in
+    neither (inc_eq x (get_or xs k d)) (has_inc (take k xs) (get_or xs k d)) (eq_apart x (get_or xs k d) (λ e. let s : x.server ≡ (get_or xs k d).server = ap (λ (i : Inc). i.server) e in omega (arith, s, high))) (is_new x.server xs k d h.1 (omega arith))
+
+abbrev pub taker_of : List Inc → Inc → View
+taker_of senders m = taker m senders [] []
+
+pub all_new : (views : List View) (senders members : List Inc) (name : Inc) → views ≡ map (taker_of senders) members → has_inc senders name ≡ false → All (λ (v : View). has_inc v.senders name ≡ false) views
+all_new views senders members name is new = subst (All (λ (v : View). has_inc v.senders name ≡ false)) (sym is) (All-map (λ (v : View). has_inc v.senders name ≡ false) (taker_of senders) members (λ j d l. new))
+
+-- what the ports of a new sender know
+module _ (ports : List Port) (views : List View) (name : Inc) (senders members : List Inc) (so : map port_view ports ≡ map (newcomer name) views) (is : views ≡ map (taker_of senders) members) where
+  port_views : map port_view ports ≡ map (λ m. newcomer name (taker_of senders m)) members
+  port_views = so ∙ (ap (map (newcomer name)) is ∙ map_twice (taker_of senders) (newcomer name) members)
+
+  pub ports_owned : map owner_of ports ≡ members
+  ports_owned = sym (map_twice port_view (λ (v : View). v.owner) ports) ∙ (ap (map (λ (v : View). v.owner)) port_views ∙ (map_twice (λ m. newcomer name (taker_of senders m)) (λ (v : View). v.owner) members ∙ map-id members))
+
+  pub ports_empty : All (λ letters. letters ≡ []) (map letters_of ports)
+  ports_empty =
+      let same : map letters_of ports ≡ map (λ (m : Inc). []) members =
+      sym (map_twice port_view (λ (v : View). v.letters) ports) ∙ (ap (map (λ (v : View). v.letters)) port_views ∙ map_twice (λ m. newcomer name (taker_of senders m)) (λ (v : View). v.letters) members) in
+      subst (All (λ (l : List Letter). l ≡ [])) (sym same) (All-map (λ (l : List Letter). l ≡ []) (λ (m : Inc). []) members (λ j d l. refl))
+
+-- the passes of the takers
+module _ (hub : Hub) (takes : List TakePass) (same : map take_queue takes ≡ queues hub) (is : map take_view takes ≡ map (taker_of hub.members.items) hub.members.items) (order : AreInOrder takes) where
+  seen : (k : ℕ) (d : TakePass) → k < length takes → (m : Inc) × (slice_get hub.members.items k ≡ Some m) × (taker_of hub.members.items m ≡ take_view (get_or takes k d))
+  seen k d l = map_under (taker_of hub.members.items) hub.members.items k (take_view (get_or takes k d)) (ap (λ x. slice_get x k) (sym is) ∙ (slice_get-map take_view takes k ∙ ap (option_map take_view) (some_there takes k d l)))
+
+  pub takes_own : All (IsTakePassOf hub) takes
+  takes_own k d l =
+      let t = get_or takes k d in let at = order k t (some_there takes k d l) in let m = seen k d l in (
+        ap (slice_get (queues hub)) at ∙ (ap (λ x. slice_get x k) (sym same) ∙ (slice_get-map take_queue takes k ∙ ap (option_map take_queue) (some_there takes k d l))),
+        ap (slice_get hub.members.items) at ∙ (m.1 ∙ ap (λ (v : View). Some v.owner) m.2),
+        ap (λ (v : View). v.senders) (sym m.2),
+      )
+
+  pub takes_empty : All (λ (t : TakePass). (got t ≡ []) × (told t ≡ [])) takes
+  takes_empty k d l = let m = seen k d l in (ap (λ (v : View). v.letters) (sym m.2), ap (λ (v : View). v.told) (sym m.2))
+
+  pub takes_owned : map take_owner takes ≡ hub.members.items
+  takes_owned = sym (map_twice take_view (λ (v : View). v.owner) takes) ∙ (ap (map (λ (v : View). v.owner)) is ∙ (map_twice (taker_of hub.members.items) (λ (v : View). v.owner) hub.members.items ∙ map-id hub.members.items))

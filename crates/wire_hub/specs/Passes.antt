@@ -40,6 +40,12 @@ got pass = pass.seat.me.view.client.letters
 abbrev pub told : TakePass → List Told
 told pass = pass.seat.me.view.client.told
 
+abbrev pub send_name : SendPass → Inc
+send_name pass = pass.name
+
+abbrev pub take_owner : TakePass → Inc
+take_owner pass = pass.seat.me.view.client.owner
+
 -- ---- of which hub it is a pass
 
 abbrev pub queues : Hub → List (SegId Global)

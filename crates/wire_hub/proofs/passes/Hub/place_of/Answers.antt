@@ -4,11 +4,8 @@ use Rattle.std.proofs.lemmas.List.{take_all}
 use Rattle.gr_ids.specs.declared.names.Inc.{Inc}
 use Rattle.gr_ids.specs.Names.{inc_eq, has_inc}
 use Rattle.wire_hub.specs.Posts.{no_one}
+use Rattle.wire_hub.proofs.Lists.{neither}
 use Rattle.wire_hub.proofs.passes.Hub.place_of.Goals as goal
-
-neither : (a b : Bool) → a ≡ false → b ≡ false → (a || b) ≡ false
-neither false b p q = q
-neither true b p q = absurd (true≢false p)
 
 pub loop-place-preserved : goal.loop-place-preserved
 loop-place-preserved c =
