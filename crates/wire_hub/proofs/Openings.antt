@@ -13,14 +13,13 @@ use Rattle.gr_ids.specs.declared.names.Inc.{Inc}
 use Rattle.gr_ids.specs.Names.{inc_eq, has_inc}
 use Rattle.wire_hub.specs.declared.letter.Letter.{Letter}
 use Rattle.wire_hub.specs.declared.view.View.{View}
-use Rattle.wire_hub.specs.declared.passes.Hub.{Hub}
 use Rattle.wire_hub.specs.declared.passes.Mailbox.{Mailbox}
 use Rattle.wire_hub.specs.declared.passes.Port.{Port}
 use Rattle.wire_hub.specs.declared.passes.TakePass.{TakePass}
 use Rattle.wire_hub.specs.Letters.{last_index}
 use Rattle.wire_hub.specs.Posts.{taker, making, newcomer}
 use Rattle.std.specs.Option.{option_map}
-use Rattle.wire_hub.specs.Passes.{ascends, queues, queue_of, owner_of, take_owner, got, told, IsTakePassOf}
+use Rattle.wire_hub.specs.Passes.{ascends, queue_of, owner_of, take_owner, got, told}
 use Rattle.wire_hub.specs.Opening.{AreInOrder, box_queue, take_queue, take_tie, take_view, port_view}
 use Rattle.wire_hub.proofs.Lists.{eq_apart, neither}
 use Rattle.wire_hub.proofs.Ties.{letters_of}
@@ -162,20 +161,20 @@ module _ (ports : List Port) (views : List View) (name : Inc) (senders members :
       subst (All (λ (l : List Letter). l ≡ [])) (sym same) (All-map (λ (l : List Letter). l ≡ []) (λ (m : Inc). []) members (λ j d l. refl))
 
 -- the passes of the takers
-module _ (hub : Hub) (takes : List TakePass) (same : map take_queue takes ≡ queues hub) (is : map take_view takes ≡ map (taker_of hub.members.items) hub.members.items) (order : AreInOrder takes) where
-  seen : (k : ℕ) (d : TakePass) → k < length takes → (m : Inc) × (slice_get hub.members.items k ≡ Some m) × (taker_of hub.members.items m ≡ take_view (get_or takes k d))
-  seen k d l = map_under (taker_of hub.members.items) hub.members.items k (take_view (get_or takes k d)) (ap (λ x. slice_get x k) (sym is) ∙ (slice_get-map take_view takes k ∙ ap (option_map take_view) (some_there takes k d l)))
+module _ (qs : List (SegId Global)) (members : List Inc) (takes : List TakePass) (same : map take_queue takes ≡ qs) (is : map take_view takes ≡ map (taker_of members) members) (order : AreInOrder takes) where
+  seen : (k : ℕ) (d : TakePass) → k < length takes → (m : Inc) × (slice_get members k ≡ Some m) × (taker_of members m ≡ take_view (get_or takes k d))
+  seen k d l = map_under (taker_of members) members k (take_view (get_or takes k d)) (ap (λ x. slice_get x k) (sym is) ∙ (slice_get-map take_view takes k ∙ ap (option_map take_view) (some_there takes k d l)))
 
-  pub takes_own : All (IsTakePassOf hub) takes
+  pub takes_own : All (λ (t : TakePass). (slice_get qs t.at ≡ Some (take_queue t)) × (slice_get members t.at ≡ Some (take_owner t)) × (t.seat.me.view.client.senders ≡ members)) takes
   takes_own k d l =
       let t = get_or takes k d in let at = order k t (some_there takes k d l) in let m = seen k d l in (
-        ap (slice_get (queues hub)) at ∙ (ap (λ x. slice_get x k) (sym same) ∙ (slice_get-map take_queue takes k ∙ ap (option_map take_queue) (some_there takes k d l))),
-        ap (slice_get hub.members.items) at ∙ (m.1 ∙ ap (λ (v : View). Some v.owner) m.2),
+        ap (slice_get qs) at ∙ (ap (λ x. slice_get x k) (sym same) ∙ (slice_get-map take_queue takes k ∙ ap (option_map take_queue) (some_there takes k d l))),
+        ap (slice_get members) at ∙ (m.1 ∙ ap (λ (v : View). Some v.owner) m.2),
         ap (λ (v : View). v.senders) (sym m.2),
       )
 
   pub takes_empty : All (λ (t : TakePass). (got t ≡ []) × (told t ≡ [])) takes
   takes_empty k d l = let m = seen k d l in (ap (λ (v : View). v.letters) (sym m.2), ap (λ (v : View). v.told) (sym m.2))
 
-  pub takes_owned : map take_owner takes ≡ hub.members.items
-  takes_owned = sym (map_twice take_view (λ (v : View). v.owner) takes) ∙ (ap (map (λ (v : View). v.owner)) is ∙ (map_twice (taker_of hub.members.items) (λ (v : View). v.owner) hub.members.items ∙ map-id hub.members.items))
+  pub takes_owned : map take_owner takes ≡ members
+  takes_owned = sym (map_twice take_view (λ (v : View). v.owner) takes) ∙ (ap (map (λ (v : View). v.owner)) is ∙ (map_twice (taker_of members) (λ (v : View). v.owner) members ∙ map-id members))

@@ -40,6 +40,10 @@ got pass = pass.seat.me.view.client.letters
 abbrev pub told : TakePass → List Told
 told pass = pass.seat.me.view.client.told
 
+-- its name, and what it has sent
+abbrev pub what_of : SendPass → Inc × List (List Letter)
+what_of pass = (pass.name, sent_to pass)
+
 abbrev pub send_name : SendPass → Inc
 send_name pass = pass.name
 

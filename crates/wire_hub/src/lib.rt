@@ -5,6 +5,7 @@
 //! (first in, first out for each sender); between senders there is no order.
 #![tactic(auto)]
 
+mod closing;
 mod hub;
 mod letter;
 mod mailbox;
