@@ -3,3 +3,4 @@ pub mod Keeps
 pub mod Maps
 pub mod Ties
 pub mod Openings
+pub mod Closings
