@@ -1,5 +1,10 @@
 -- A list that is read element by element.
-use Rattle.std.proofs.Common.{◌≡◌, ℕ, zero, suc, ◌+◌, ◌-◌, ◌<◌, List, [], ◌∷◌, ◌++◌, length, Option, Some, None, refl, sym, ap, ◌∙◌, arith, append_assoc}
+use Rattle.std.proofs.Common.{◌≡◌, ℕ, zero, suc, ◌+◌, ◌-◌, ◌<◌, ◌≤◌, List, [], ◌∷◌, ◌++◌, length, Option, Some, None, refl, sym, ap, subst, ◌∙◌, arith, append_assoc, IfSome}
+use Rattle.std.specs.List.{slice_get}
+use Rattle.byte_forms.specs.Cuts.{Cut, Takes, FaultsAt}
+use Rattle.byte_forms.specs.Unreads.{Breaks}
+use Rattle.byte_forms.specs.declared.unread.Unread.{Unread}
+use Rattle.byte_forms.specs.declared.unread.Unread.TheVariants.{Memory, Misfit}
 use Rattle.std.proofs.lemmas.List.{append-nil}
 use Rattle.byte_forms.specs.Reads.{Read, Got, Fault, Reader, go_on, ◌>>=◌, pure}
 use Rattle.byte_forms.specs.Lists.{elements}
@@ -49,3 +54,40 @@ pub done_fault : {A : Type 0} (read : Option A → Reader A) (n : ℕ) (bytes : 
     → Done read n bytes done (suc more) left → read (last_of done) left ≡ Fault k → elements read None n bytes ≡ Fault k
 unfolding elements
 done_fault read n bytes done more left k h e = sym h ∙ ap (λ r. with_front done (go_on r (λ y. elements read (Some y) more >>= λ ys. pure (y ∷ ys)))) e
+
+-- the last element, as it is got
+pub last_is : {A : Type 0} (xs : List A) → slice_get xs (length xs - 1) ≡ last_of xs
+last_is [] = refl
+last_is (x ∷ []) = refl
+last_is (x ∷ y ∷ ys) =
+    let less : length (x ∷ y ∷ ys) - 1 ≡ suc (length (y ∷ ys) - 1) = omega arith in
+    ap (λ n. slice_get (x ∷ y ∷ ys) n) less ∙ last_is (y ∷ ys)
+
+pub last_pushed : {A : Type 0} (P : A → Type 0) (all done : List A) (x : A) → all ≡ done ++ x ∷ [] → P x → IfSome (last_of all) P
+last_pushed P all done x e h = subst (λ r. IfSome r P) (sym (ap last_of e ∙ last_of-push done x)) h
+
+-- What is left of a count, one more element on.
+pub done_next : {A : Type 0} (read : Option A → Reader A) (n : ℕ) (bytes : List ℕ) (done all : List A) (i : ℕ) (old new : Cut) (before : Option A) (x : A) → i < n
+    → Done read n bytes done (n - i) old.left → before ≡ last_of done → all ≡ done ++ x ∷ [] → Takes (read before) old x new → Done read n bytes all (n - (i + 1)) new.left
+done_next read n bytes done all i old new before x lt h at is e =
+    let count : n - i ≡ suc (n - (i + 1)) = omega arith in
+    let here : Done read n bytes done (suc (n - (i + 1))) old.left = subst (λ (k : ℕ). Done read n bytes done k old.left) count h in
+    let got : read (last_of done) old.left ≡ Got x new.left = ap (λ b. read b old.left) (sym at) ∙ e.value in
+    subst (λ ys. Done read n bytes ys (n - (i + 1)) new.left) (sym is) (done_more read n bytes done (n - (i + 1)) old.left new.left x here got)
+
+-- the whole list was read
+pub done_takes : {A : Type 0} (read : Option A → Reader A) (n i : ℕ) (done all : List A) (old new : Cut) → n ≤ i → Done read n old.left done (n - i) new.left → all ≡ done → new.total ≡ old.total → Takes (elements read None n) old all new
+done_takes read n i done all old new le h is whole =
+    let none : n - i ≡ 0 = omega arith in
+    let here : Done read n old.left done 0 new.left = subst (λ (k : ℕ). Done read n old.left done k new.left) none h in
+    record { value = done_all read n old.left done new.left here ∙ ap (λ xs. Got xs new.left) (sym is); whole = whole }
+
+-- where an element breaks, the list does
+pub done_breaks : {A : Type 0} (read : Option A → Reader A) (n : ℕ) (done : List A) (i : ℕ) (old at : Cut) (before : Option A) (e : Unread) → i < n
+    → Done read n old.left done (n - i) at.left → before ≡ last_of done → at.total ≡ old.total → Breaks (read before) at e → Breaks (elements read None n) old e
+done_breaks read n done i old at before Memory lt h is whole b = tt
+done_breaks read n done i old at before (Misfit k) lt h is whole b =
+    let count : n - i ≡ suc (n - (i + 1)) = omega arith in
+    let here : Done read n old.left done (suc (n - (i + 1))) at.left = subst (λ (m : ℕ). Done read n old.left done m at.left) count h in
+    let fault : read (last_of done) at.left ≡ Fault (at.total - k) = ap (λ x. read x at.left) (sym is) ∙ b.fault in
+    record { fault = done_fault read n old.left done (n - (i + 1)) at.left (at.total - k) here fault ∙ ap (λ t. Fault (t - k)) whole; within = omega (arith, b.within) }
