@@ -1,13 +1,15 @@
 -- A list that is read element by element.
 use Rattle.std.proofs.Common.{◌≡◌, ℕ, zero, suc, ◌+◌, ◌-◌, ◌<◌, ◌≤◌, List, [], ◌∷◌, ◌++◌, length, Option, Some, None, refl, sym, ap, subst, ◌∙◌, arith, append_assoc, IfSome}
-use Rattle.std.specs.List.{slice_get}
+use Rattle.std.specs.List.{slice_get, AllByRecursion}
 use Rattle.byte_forms.specs.Cuts.{Cut, Takes, FaultsAt}
 use Rattle.byte_forms.specs.Unreads.{Breaks}
 use Rattle.byte_forms.specs.declared.unread.Unread.{Unread}
 use Rattle.byte_forms.specs.declared.unread.Unread.TheVariants.{Memory, Misfit}
 use Rattle.std.proofs.lemmas.List.{append-nil}
 use Rattle.byte_forms.specs.Reads.{Read, Got, Fault, Reader, go_on, ◌>>=◌, pure}
-use Rattle.byte_forms.specs.Lists.{elements}
+use Rattle.byte_forms.specs.Fields.{number_in}
+use Rattle.byte_forms.specs.Lists.{elements, IsChain, list_of}
+use Rattle.byte_forms.proofs.FieldLemmas.{go_on-got}
 
 abbrev pub last_of : {A : Type 0} → List A → Option A
 last_of [] = None
@@ -91,3 +93,29 @@ done_breaks read n done i old at before (Misfit k) lt h is whole b =
     let here : Done read n old.left done (suc (n - (i + 1))) at.left = subst (λ (m : ℕ). Done read n old.left done m at.left) count h in
     let fault : read (last_of done) at.left ≡ Fault (at.total - k) = ap (λ x. read x at.left) (sym is) ∙ b.fault in
     record { fault = done_fault read n old.left done (n - (i + 1)) at.left (at.total - k) here fault ∙ ap (λ t. Fault (t - k)) whole; within = omega (arith, b.within) }
+
+-- ---- what each element keeps in the light of the one before
+
+pub elements_chain : {A : Type 0} (IsNext : Option A → A → Type 0) (read : Option A → Reader A) → ((before : Option A) (bytes rest : List ℕ) (x : A) → read before bytes ≡ Got x rest → IsNext before x)
+    → (n : ℕ) (before : Option A) (bytes rest : List ℕ) (xs : List A) → elements read before n bytes ≡ Got xs rest → IsChain IsNext before xs
+unfolding elements
+elements_chain IsNext read next zero before bytes rest [] e = tt
+elements_chain IsNext read next zero before bytes rest (x ∷ xs) e = absurd cc
+elements_chain {A} IsNext read next (suc n) before bytes rest xs e =
+    let f = go_on-got (read before bytes) (λ x. elements read (Some x) n >>= λ ys. pure (x ∷ ys)) xs rest e in
+    let g = go_on-got (elements read (Some f.first) n f.behind) (λ ys. pure (f.first ∷ ys)) xs rest f.then_reads in
+    let later = elements_chain IsNext read next n (Some f.first) f.behind g.behind g.first g.reads in
+    let end : Got (f.first ∷ g.first) g.behind ≡ Got xs rest = g.then_reads in
+    let is : f.first ∷ g.first ≡ xs = cc in
+    let P : List A → Type 0 = λ ys. IsChain IsNext before ys in
+    subst P is (next before bytes f.behind f.first f.reads, later)
+
+pub list_chain : {A : Type 0} (least : ℕ) (IsNext : Option A → A → Type 0) (read : Option A → Reader A) → ((before : Option A) (bytes rest : List ℕ) (x : A) → read before bytes ≡ Got x rest → IsNext before x)
+    → (bytes rest : List ℕ) (xs : List A) → list_of least read bytes ≡ Got xs rest → IsChain IsNext None xs
+list_chain least IsNext read next bytes rest xs e =
+    let f = go_on-got (number_in 4 least 4294967295 bytes) (elements read None) xs rest e in
+    elements_chain IsNext read next f.first None f.behind rest xs f.then_reads
+
+pub chain_all : {A : Type 0} (IsNext : Option A → A → Type 0) (P : A → Type 0) → ((before : Option A) (x : A) → IsNext before x → P x) → (before : Option A) (xs : List A) → IsChain IsNext before xs → AllByRecursion P xs
+chain_all IsNext P each before [] h = tt
+chain_all IsNext P each before (x ∷ xs) h = (each before x h.0, chain_all IsNext P each (Some x) xs h.1)

@@ -63,6 +63,14 @@ impl<'a> Cutter<'a> {
         self.total - self.left.len() as u64
     }
 
+    /// The place from which on so many bytes of the input are left.
+    pub fn place(&self, left: usize) -> u64
+        requires { left ≤ length self.now.left }
+        ensures { result + left ≡ self.now.total }
+    {
+        self.total - left as u64
+    }
+
     /// The number of the next byte, refused as `Short` where fewer are left.
     pub fn take_u8(&mut self) -> Result<u8, CutFault>
         ensures ok { IfOk result (λ n. self.old.left ≡ number 1 n ++ self.new.left) }
