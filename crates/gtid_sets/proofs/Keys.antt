@@ -1,16 +1,16 @@
 -- A UUID as a number: two UUIDs are one, or in order, as their numbers are. So a test on runs is one on numbers.
-use Rattle.std.proofs.Common.{◌≡◌, ℕ, suc, ◌+◌, ◌*◌, ◌^◌, ◌<◌, ◌≤◌, Bool, true, false, cond, ◌&&◌, List, [], ◌∷◌, length, refl, sym, ap, subst, ◌∙◌, inl, inr, arith, eqb, ltb, leb, Some}
-use Rattle.std.proofs.lemmas.Bool.{cases_Bool, and_parts, eqb-true, eqb-false, eq-eqb, ne_eqb, lt-ltb, le-ltb, cases_order, ltb-true, false_from_ne_true}
+use Rattle.std.proofs.Common.{◌≡◌, ℕ, ◌+◌, ◌*◌, ◌^◌, ◌<◌, true, cond, ◌&&◌, List, [], ◌∷◌, length, refl, sym, ap, subst, ◌∙◌, inl, inr, arith, eqb, ltb, leb, Some}
+use Rattle.std.proofs.lemmas.Bool.{cases_Bool, and_parts, eqb-true, eqb-false, ne_eqb, lt-ltb, le-ltb, cases_order, false_from_ne_true}
 use Rattle.std.proofs.lemmas.Bool.Decides.{nat_tests}
 use Rattle.std.proofs.lemmas.Cmp.{tied_itself, nat_cmp_total}
 use Rattle.std.specs.Ordering.{nat_cmp, is_lt, is_some_and, partial_lt}
-use Rattle.std.specs.Cmp.Lexicographic.{slice_cmp, slice_partial_cmp, lists_agrees, same_text, nat_list_eq_equiv}
+use Rattle.std.specs.Cmp.Lexicographic.{slice_partial_cmp, lists_agrees, same_text, nat_list_eq_equiv}
 use Rattle.byte_forms.specs.Numbers.{number_of, are_bytes}
 use Rattle.byte_forms.proofs.NumberLemmas.{same_bytes, number_of-below}
 use Rattle.gr_ids.specs.declared.names.Gtid.{Gtid}
 use Rattle.gr_ids.specs.Names.{bytes_lt}
 use Rattle.std.specs.Str.{bytes_eq}
-use Rattle.gtid_sets.specs.Sets.{Run, in_run, before_run, covers}
+use Rattle.gtid_sets.specs.Sets.{Run, in_run, before_run}
 use Rattle.gtid_sets.specs.Canonical.{IsUuid, IsRun}
 
 bytes_eq_same : (x : List ℕ) → bytes_eq x x ≡ true

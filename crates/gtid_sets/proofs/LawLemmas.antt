@@ -1,18 +1,18 @@
 -- The membership tests of the operations, at any GTID.
-use Rattle.std.proofs.Common.{◌≡◌, ℕ, zero, suc, ◌+◌, ◌-◌, ◌<◌, ◌≤◌, ◌≢◌, Bool, true, false, cond, not, ◌&&◌, ◌||◌, ◌⊎◌, List, [], ◌∷◌, length, refl, sym, ap, subst, ◌∙◌, inl, inr, arith, eqb, ltb, leb}
-use Rattle.std.specs.List.{list_any, list_all}
-use Rattle.std.proofs.lemmas.Bool.{cases_Bool, cases_eq, cases_lt, false≢true, or_from, or_cases, or_left, or_right, and_from, and_left, and_right, and_parts, false_from_ne_true}
+use Rattle.std.proofs.Common.{◌≡◌, ℕ, ◌+◌, ◌≤◌, true, false, not, ◌&&◌, ◌||◌, ◌⊎◌, List, [], ◌∷◌, length, refl, sym, ap, subst, ◌∙◌, inl, inr, arith, eqb, leb}
+use Rattle.std.specs.List.{list_any}
+use Rattle.std.proofs.lemmas.Bool.{cases_Bool, cases_eq, cases_lt, false≢true, or_from, or_cases, or_left, or_right, and_from, and_left, and_parts, false_from_ne_true}
 use Rattle.std.proofs.lemmas.Bool.Decides.{nat_tests}
 use Rattle.std.specs.Cmp.Lexicographic.{same_text}
-use Rattle.byte_forms.specs.Numbers.{number_of, are_bytes}
+use Rattle.byte_forms.specs.Numbers.{are_bytes}
 use Rattle.gr_ids.specs.declared.names.Gtid.{Gtid}
 use Rattle.gr_ids.specs.Names.{gtid_eq}
 use Rattle.std.specs.Str.{bytes_eq}
-use Rattle.gtid_sets.specs.Sets.{Run, Gtids, single, in_run, has, before_run, with_gtid, union, meet, minus, covers, subset}
-use Rattle.gtid_sets.specs.Canonical.{IsUuid, IsNumber, IsRun, IsBefore, IsCanonical}
+use Rattle.gtid_sets.specs.Sets.{Run, Gtids, single, in_run, has, with_gtid, union, meet, minus, covers, subset}
+use Rattle.gtid_sets.specs.Canonical.{IsUuid, IsNumber, IsRun, IsCanonical}
 use Rattle.gtid_sets.proofs.Keys.{bytes_eq-key, in_run-key}
 use Rattle.gtid_sets.proofs.RunLemmas.{has_with_run}
-use Rattle.gtid_sets.proofs.Members.{beyond, has_behind, at, same_members}
+use Rattle.gtid_sets.proofs.Members.{has_behind, at, same_members}
 use Rattle.gtid_sets.proofs.UnionLemmas.{runs_of_canonical, has_union, canonical_union}
 use Rattle.gtid_sets.proofs.PartLemmas.{has_meet, canonical_meet, has_minus, canonical_minus}
 use Rattle.gtid_sets.proofs.PutLemmas.{canonical_with_gtid}

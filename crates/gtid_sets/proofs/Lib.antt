@@ -9,3 +9,6 @@ pub mod StepLemmas
 pub mod LawLemmas
 pub mod SpellingLemmas
 pub mod SourceLemmas
+pub mod SourcePacks
+pub mod UuidTakes
+pub mod TakeLemmas

@@ -1,14 +1,13 @@
 -- Two canonical sets with the same members are one list of runs.
-use Rattle.std.proofs.Common.{◌≡◌, ℕ, suc, ◌+◌, ◌*◌, ◌^◌, ◌<◌, ◌≤◌, Bool, true, false, cond, ◌&&◌, ◌||◌, ◌⊎◌, List, [], ◌∷◌, length, refl, sym, ap, subst, ◌∙◌, inl, inr, arith, eqb, ltb, leb}
+use Rattle.std.proofs.Common.{◌≡◌, ℕ, ◌+◌, ◌<◌, ◌≤◌, Bool, true, false, cond, ◌||◌, ◌⊎◌, [], ◌∷◌, refl, sym, ap, ◌∙◌, inl, inr, arith, eqb, ltb}
 use Rattle.std.proofs.lemmas.Bool.{cases_Bool, cases_order, cases_lt, false≢true, or_cases, or_left}
 use Rattle.std.proofs.lemmas.Bool.Decides.{nat_tests}
-use Rattle.byte_forms.specs.Numbers.{number_of, are_bytes}
+use Rattle.byte_forms.specs.Numbers.{number_of}
 use Rattle.byte_forms.proofs.NumberLemmas.{same_bytes}
 use Rattle.gr_ids.specs.declared.names.Gtid.{Gtid}
-use Rattle.std.specs.Str.{bytes_eq}
 use Rattle.gtid_sets.specs.Sets.{Run, Gtids, in_run, has, before_run}
 use Rattle.gtid_sets.specs.Canonical.{IsUuid, IsRun, IsBefore, IsCanonical}
-use Rattle.gtid_sets.proofs.Keys.{bytes_eq-key, in_run-key, before_run-key}
+use Rattle.gtid_sets.proofs.Keys.{in_run-key, before_run-key}
 use Rattle.gtid_sets.proofs.RunLemmas.{before_head}
 
 -- whether a GTID stands behind a run, with a gap between

@@ -1,17 +1,15 @@
 -- A GTID put in among runs: the list after each way out.
-use Rattle.std.proofs.Common.{◌≡◌, ℕ, zero, suc, ◌+◌, ◌<◌, ◌≤◌, Bool, true, false, cond, ◌&&◌, ◌||◌, List, [], ◌∷◌, ◌++◌, length, get_or, set, take, drop, refl, sym, ap, subst, ◌∙◌, inl, inr, arith, eqb, ltb, leb, add-one, append_assoc}
+use Rattle.std.proofs.Common.{◌≡◌, ℕ, suc, ◌+◌, ◌<◌, Bool, true, false, [], ◌∷◌, ◌++◌, length, get_or, set, take, drop, refl, sym, ap, subst, ◌∙◌, arith, add-one, append_assoc}
 use Rattle.std.specs.Prelude.{insert, remove}
-use Rattle.std.proofs.lemmas.Bool.{cases_Bool, false≢true}
 use Rattle.std.proofs.lemmas.Bool.Decides.{nat_tests}
-use Rattle.std.proofs.lemmas.List.{set_split, drop_more, drop_all, take_all, take_more_set, drop-set-lt, append-nil}
-use Rattle.byte_forms.specs.Numbers.{number_of}
+use Rattle.std.proofs.lemmas.List.{set_split, drop_more, drop_all, take_all, take_more_set, drop-set-lt}
 use Rattle.gr_ids.specs.declared.names.Gtid.{Gtid}
-use Rattle.gtid_sets.specs.Sets.{Run, Gtids, single, in_run, has, before_run, joined, with_run, with_gtid}
+use Rattle.gtid_sets.specs.Sets.{Run, Gtids, single, before_run, joined, with_run, with_gtid}
 use Rattle.gtid_sets.specs.Canonical.{IsUuid, IsRun, IsBefore, IsCanonical, IsNumber}
 use Rattle.gtid_sets.specs.Places.{runs_before, joined_next}
-use Rattle.gtid_sets.proofs.Keys.{bytes_eq-key, bytes_lt-key, in_run-key, before_run-key}
-use Rattle.gtid_sets.proofs.RunLemmas.{Touch, before_head, joined_run, touch, with_run-before, with_run-after, with_run-touch, canonical_with_run, canonical_drop}
-use Rattle.gtid_sets.proofs.Searching.{at_place, with_gtid_at, before_single-key}
+use Rattle.gtid_sets.proofs.Keys.{before_run-key}
+use Rattle.gtid_sets.proofs.RunLemmas.{Touch, joined_run, touch, with_run-before, with_run-touch, canonical_with_run, canonical_drop}
+use Rattle.gtid_sets.proofs.Searching.{at_place, with_gtid_at}
 
 -- ---- a run in the place of another
 

@@ -1,14 +1,11 @@
 -- A run put into a set.
-use Rattle.std.proofs.Common.{◌≡◌, ℕ, zero, suc, get_or, drop, ◌+◌, ◌*◌, ◌^◌, ◌<◌, ◌≤◌, Bool, true, false, cond, ◌&&◌, ◌||◌, List, [], ◌∷◌, length, refl, sym, ap, subst, ◌∙◌, inl, inr, arith, eqb, ltb, leb}
-use Rattle.std.proofs.lemmas.Bool.{cases_Bool, and_parts, eqb-true, eqb-false}
+use Rattle.std.proofs.Common.{◌≡◌, ℕ, zero, suc, get_or, drop, ◌+◌, ◌<◌, ◌≤◌, Bool, true, false, ◌||◌, [], ◌∷◌, length, refl, sym, ◌∙◌, arith}
 use Rattle.std.proofs.lemmas.Bool.Decides.{nat_tests}
-use Rattle.byte_forms.specs.Numbers.{number_of, are_bytes}
+use Rattle.byte_forms.specs.Numbers.{number_of}
 use Rattle.gr_ids.specs.declared.names.Gtid.{Gtid}
-use Rattle.gr_ids.specs.Names.{bytes_lt}
-use Rattle.std.specs.Str.{bytes_eq}
 use Rattle.gtid_sets.specs.Sets.{Run, Gtids, in_run, has, before_run, joined, with_run}
 use Rattle.gtid_sets.specs.Canonical.{IsUuid, IsRun, IsBefore, IsCanonical}
-use Rattle.gtid_sets.proofs.Keys.{bytes_eq-key, in_run-key, before_run-key}
+use Rattle.gtid_sets.proofs.Keys.{in_run-key, before_run-key}
 
 -- neither stands before the other with a gap between: they are of one source, and touch or overlap
 pub record Touch (a b : Run) : Type 0 where

@@ -1,5 +1,5 @@
 -- Where a GTID stands among the runs of a set.
-use Rattle.std.proofs.Common.{◌≡◌, ℕ, zero, suc, ◌+◌, ◌<◌, ◌≤◌, Bool, true, false, cond, ◌&&◌, ◌||◌, List, [], ◌∷◌, ◌++◌, length, get_or, take, drop, refl, sym, ap, ◌∙◌, inl, inr, arith, eqb, ltb, leb}
+use Rattle.std.proofs.Common.{◌≡◌, ℕ, zero, suc, ◌+◌, ◌<◌, ◌≤◌, Bool, true, false, cond, ◌||◌, [], ◌∷◌, ◌++◌, length, get_or, take, drop, refl, sym, ap, ◌∙◌, inl, inr, arith, eqb, ltb}
 use Rattle.std.proofs.lemmas.Bool.{cases_Bool, false≢true, or_from}
 use Rattle.std.proofs.lemmas.Bool.Decides.{nat_tests}
 use Rattle.byte_forms.specs.Numbers.{number_of}
@@ -9,7 +9,7 @@ use Rattle.gtid_sets.specs.Canonical.{IsUuid, IsRun, IsBefore, IsCanonical}
 use Rattle.gtid_sets.specs.Places.{runs_before}
 use Rattle.gtid_sets.proofs.Keys.{bytes_eq-key, bytes_lt-key, in_run-key, before_run-key}
 use Rattle.gtid_sets.proofs.RunLemmas.{before_head, with_run-after}
-use Rattle.gtid_sets.proofs.Members.{beyond, has_behind}
+use Rattle.gtid_sets.proofs.Members.{has_behind}
 
 pub before_single-key : (r : Run) (g : Gtid) → IsRun r → IsUuid g.source → before_run r (single g) ≡ cond (eqb (number_of r.source) (number_of g.source)) (ltb (r.last + 1) g.number) (ltb (number_of r.source) (number_of g.source))
 before_single-key r g hr hg = rw (bytes_eq-key r.source g.source hr.uuid hg, bytes_lt-key r.source g.source hr.uuid hg) refl

@@ -1,23 +1,20 @@
 -- The runs of a canonical set, by source, and back.
-use Rattle.std.proofs.Common.{◌≡◌, ℕ, zero, suc, ◌+◌, ◌-◌, ◌*◌, ◌^◌, ◌<◌, ◌≤◌, Bool, true, false, cond, ◌&&◌, ◌||◌, Option, Some, None, List, [], ◌∷◌, ◌++◌, length, map, refl, sym, ap, subst, ◌∙◌, inl, inr, arith, eqb, ltb, leb, append_assoc, length-append}
-use Rattle.std.specs.List.{flat_map, AllByRecursion}
-use Rattle.std.proofs.lemmas.Bool.{cases_Bool, false≢true, false_from_ne_true}
+use Rattle.std.proofs.Common.{◌≡◌, ℕ, ◌+◌, ◌^◌, ◌<◌, ◌≤◌, Bool, true, false, Option, Some, None, List, [], ◌∷◌, ◌++◌, length, map, refl, sym, ap, subst, ◌∙◌, arith}
+use Rattle.std.specs.List.{AllByRecursion}
 use Rattle.std.proofs.lemmas.Bool.Decides.{nat_tests}
-use Rattle.std.proofs.lemmas.List.{append-nil}
 use Rattle.std.specs.Cmp.Lexicographic.{same_text, nat_list_eq_equiv}
 use Rattle.std.specs.Str.{bytes_eq}
 use Rattle.gr_ids.specs.Names.{bytes_lt}
 use Rattle.byte_forms.specs.Numbers.{number_of}
-use Rattle.byte_forms.specs.Reads.{Read, Got, Fault, Reader, go_on, ◌>>=◌, pure}
+use Rattle.byte_forms.specs.Reads.{Got, pure}
 use Rattle.byte_forms.specs.Lists.{several, IsChain, list_of}
 use Rattle.byte_forms.specs.Forms.{IsForm}
 use Rattle.byte_forms.proofs.FieldLemmas.{go_on-got}
 use Rattle.byte_forms.proofs.FormLemmas.{IsListed, list_form}
 use Rattle.gtid_sets.specs.Sets.{Run, Gtids, before_run}
-use Rattle.gtid_sets.specs.Canonical.{last_number, IsUuid, IsRun, IsBefore, IsCanonical}
+use Rattle.gtid_sets.specs.Canonical.{IsUuid, IsRun, IsBefore, IsCanonical}
 use Rattle.gtid_sets.specs.Spelling.{Interval, Source, interval_of, with_first, sources_of, runs_of, source_bytes, set_bytes, least_first, is_above, uuid_of, next_source_after, next_set, HasCounts}
 use Rattle.gtid_sets.proofs.Keys.{bytes_eq-key, bytes_lt-key, before_run-key}
-use Rattle.gtid_sets.proofs.RunLemmas.{before_head}
 use Rattle.gtid_sets.proofs.SpellingLemmas.{IsIntervalAfter, IsSourceAfter, source_form}
 
 -- ---- from runs to sources and back

@@ -1,25 +1,21 @@
 -- The two sides of the spelling of a set.
-use Rattle.std.proofs.Common.{◌≡◌, ℕ, zero, suc, ◌+◌, ◌-◌, ◌*◌, ◌^◌, ◌<◌, ◌≤◌, Bool, true, false, cond, ◌&&◌, ◌||◌, Option, Some, None, List, [], ◌∷◌, ◌++◌, length, map, replicate, take, drop, refl, sym, ap, subst, ◌∙◌, inl, inr, arith, eqb, ltb, leb, append_assoc, length-append}
-use Rattle.std.specs.List.{flat_map}
-use Rattle.std.proofs.lemmas.Bool.{cases_Bool, false≢true, and_parts, and_from, ltb-true, lt-ltb, le-ltb}
+use Rattle.std.proofs.Common.{◌≡◌, ℕ, ◌-◌, ◌<◌, ◌≤◌, Bool, true, false, cond, Option, Some, None, List, [], ◌∷◌, ◌++◌, length, replicate, refl, sym, ap, subst, ◌∙◌, arith, eqb, ltb, append_assoc, length-append}
+use Rattle.std.proofs.lemmas.Bool.{and_parts, and_from, ltb-true}
 use Rattle.std.proofs.lemmas.Bool.Decides.{nat_tests}
 use Rattle.std.proofs.lemmas.List.{append-nil}
-use Rattle.std.specs.Cmp.Lexicographic.{slice_cmp, same_text}
+use Rattle.std.specs.Cmp.Lexicographic.{slice_cmp}
 use Rattle.std.specs.Ordering.{nat_cmp, is_lt, ordering_then}
 use Rattle.std.specs.declared.cmp.Ordering.TheVariants.{Less, Equal, Greater}
-use Rattle.std.specs.Str.{bytes_eq}
 use Rattle.gr_ids.specs.Names.{bytes_lt}
-use Rattle.byte_forms.specs.Numbers.{number, number_of, are_bytes}
-use Rattle.byte_forms.specs.Reads.{Read, Got, Fault, Reader, go_on, ◌>>=◌, pure}
+use Rattle.byte_forms.specs.Numbers.{number, are_bytes}
+use Rattle.byte_forms.specs.Reads.{Got, ◌>>=◌, pure}
 use Rattle.byte_forms.specs.Fields.{field, number_in}
-use Rattle.byte_forms.specs.Lists.{several, elements, IsChain, list_of}
+use Rattle.byte_forms.specs.Lists.{several, list_of}
 use Rattle.byte_forms.specs.Forms.{IsForm}
 use Rattle.byte_forms.proofs.FieldLemmas.{are_bytes_parts, go_on-got, field-again, field-got, number_in-again, number_in-got}
 use Rattle.byte_forms.proofs.FormLemmas.{IsListed, list_form}
-use Rattle.gtid_sets.specs.Sets.{Run, Gtids, before_run}
-use Rattle.gtid_sets.specs.Canonical.{last_number, IsUuid, IsRun, IsBefore, IsCanonical}
-use Rattle.gtid_sets.specs.Spelling.{Interval, Source, interval_of, with_first, sources_of, runs_of, interval_bytes, source_bytes, set_bytes, least_first, next_interval_after, is_above, begins_uuid, uuid_of, next_source_above, next_source_after, next_set, HasCounts}
-use Rattle.gtid_sets.proofs.Keys.{bytes_eq-key, bytes_lt-key, before_run-key}
+use Rattle.gtid_sets.specs.Canonical.{last_number, IsUuid}
+use Rattle.gtid_sets.specs.Spelling.{Interval, Source, interval_bytes, source_bytes, least_first, next_interval_after, is_above, begins_uuid, uuid_of, next_source_above, next_source_after}
 
 -- ---- intervals
 

@@ -2,3 +2,4 @@ pub mod Sets
 pub mod Canonical
 pub mod Places
 pub mod Spelling
+pub mod Pieces

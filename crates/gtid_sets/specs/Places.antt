@@ -1,5 +1,5 @@
 -- Where a GTID stands among the runs of a set.
-use Rattle.std.specs.Prelude.{◌≡◌, ℕ, zero, suc, Bool, true, false, List, [], ◌∷◌, nat_lt, nat_le, if◌then◌else◌}
+use Rattle.std.specs.Prelude.{◌≡◌, ℕ, suc, Bool, true, false, List, [], ◌∷◌, nat_lt, nat_le, if◌then◌else◌}
 use Rattle.gr_ids.specs.declared.names.Gtid.{Gtid}
 use Rattle.gr_ids.specs.Names.{bytes_eq, bytes_lt}
 use Rattle.gtid_sets.specs.Canonical.{IsRun}
@@ -41,3 +41,8 @@ precedes a b = if bytes_eq a.source b.source then nat_lt a.last b.first else byt
 -- whether a run ends before another one does
 abbrev pub ends_first : Run → Run → Bool
 ends_first a b = if bytes_eq a.source b.source then nat_lt a.last b.last else bytes_lt a.source b.source
+
+-- how many runs at the front are of this source
+abbrev pub runs_of_source : List ℕ → Gtids → ℕ
+runs_of_source u [] = 0
+runs_of_source u (r ∷ rs) = elim (bytes_eq u r.source) [ true ↦ suc (runs_of_source u rs) | false ↦ 0 ]

@@ -55,11 +55,15 @@ abbrev pub least_first : Option Interval → ℕ
 least_first None = 1
 least_first (Some b) = b.last + 2
 
-unfoldable pub next_interval_after : Option Interval → Reader Interval
-next_interval_after before = do
-  first ← number_in 8 (least_first before) last_number
+-- an interval that begins no lower than this
+abbrev pub interval_from : ℕ → Reader Interval
+interval_from low = do
+  first ← number_in 8 low last_number
   last ← number_in 8 first last_number
   pure (record { first = first; last = last })
+
+unfoldable pub next_interval_after : Option Interval → Reader Interval
+next_interval_after before = interval_from (least_first before)
 
 -- whether a UUID is above the one before
 abbrev pub is_above : Option (List ℕ) → List ℕ → Bool

@@ -4,6 +4,8 @@ ghost use Rattle.gr_ids.specs.declared.names.Gtid.{Gtid};
 ghost use Rattle.gr_ids.specs.Names.{gtid_eq};
 ghost use Rattle.gtid_sets.specs.Sets.{Gtids, has, with_gtid, union, meet, minus, subset};
 ghost use Rattle.gtid_sets.specs.Canonical.{IsCanonical, IsUuid, IsNumber};
+ghost use Rattle.gtid_sets.specs.Spelling.{set_bytes, next_set, HasCounts};
+ghost use Rattle.byte_forms.specs.Forms.{IsForm};
 
 /// A set to which a GTID was added has that one and those that it had.
 pub fn members_of_added()
@@ -40,4 +42,10 @@ pub fn members_of_subset()
 /// Two canonical lists of runs with the same GTIDs are one list.
 pub fn one_list_of_runs()
     ensures { (s t : Gtids) → IsCanonical s → IsCanonical t → ((g : Gtid) → has s g ≡ has t g) → s ≡ t }
+{}
+
+/// A set's bytes are read as that set, whatever follows; what is read is a set whose bytes were read.
+#[tactic(auto, using(crate::proofs::SourceLemmas::set_form))]
+pub fn bytes_of_sets()
+    ensures { IsForm (λ s. IsCanonical s × HasCounts s) set_bytes next_set }
 {}

@@ -2,19 +2,23 @@
 #![tactic(auto)]
 
 mod adding;
+mod faults;
 mod fits;
 mod laws;
+mod packing;
 mod parts;
 mod run;
 mod search;
 mod set;
+mod taking;
 mod told;
 mod union;
 mod whole;
 
+pub use faults::SetFault;
 pub use laws::{
-    members_of_added, members_of_meet, members_of_minus, members_of_subset, members_of_union,
-    one_list_of_runs,
+    bytes_of_sets, members_of_added, members_of_meet, members_of_minus, members_of_subset,
+    members_of_union, one_list_of_runs,
 };
 pub use run::Run;
 pub use set::GtidSet;

@@ -1,10 +1,14 @@
 // A set of GTIDs as its longest runs.
 use crate::adding::put_gtid;
+use crate::faults::SetFault;
+use crate::packing::put_set;
 use crate::parts::{met, remaining};
 use crate::run::Run;
 use crate::search::runs_before;
+use crate::taking::take_set;
 use crate::union::merged;
 use crate::whole::{counted, covered};
+use byte_forms::{Cutter, Packer};
 use gr_ids::{Gtid, Memory};
 use std::alloc::Global;
 use std::marker::Model;
@@ -30,7 +34,11 @@ impl Model for GtidSet {
 }
 
 impl GtidSet {
-    ghost use Rattle.std.specs.Prelude.{◌≡◌, ◌↔◌, [], IsTrue, IfOk, OnOk, OnErr};
+    ghost use Rattle.std.specs.Prelude.{◌≡◌, ◌↔◌, [], ◌++◌, IsTrue, IfOk, IfErr, OnOk, OnErr};
+    ghost use Rattle.byte_forms.specs.Cuts.{Takes};
+    ghost use Rattle.byte_forms.specs.Unreads.{Breaks};
+    ghost use Rattle.gtid_sets.specs.Spelling.{set_bytes, next_set, HasCounts};
+    ghost use Rattle.gtid_sets.specs.Pieces.{unread_of};
     ghost use Rattle.gtid_sets.specs.Sets.{has, with_gtid, union, meet, minus, subset, count_of};
     ghost use Rattle.gtid_sets.specs.Canonical.{IsCanonical, IsNumber};
 
@@ -121,6 +129,37 @@ impl GtidSet {
         ensures { IfOk result (λ copy. copy ≡ self.now) }
     {
         let runs = Vec::from_slice(alloc, &self.runs)?;
+        Ok(GtidSet { runs })
+    }
+
+    /// Puts the set's bytes. Linear in the runs; nothing changes where memory is refused. A set whose counts need more
+    /// than four bytes, which would take 128 GiB, has no spelling, and is answered so too.
+    pub fn write_bytes(&self, to: &mut Packer) -> Result<(), Memory>
+        ensures ok { OnOk result (to.new ≡ to.old ++ set_bytes self.now) }
+        ensures fits { OnOk result (HasCounts self.now) }
+        ensures err { OnErr result (to.new ≡ to.old) }
+    {
+        let len = to.len();
+        match put_set(to, &self.runs) {
+            Ok(()) => Ok(()),
+            Err(e) => {
+                to.truncate(len);
+                Err(e)
+            }
+        }
+    }
+
+    /// Takes a set. Refused as `BadSet` at the first byte with which no spelling of a set goes on. Linear in the bytes
+    /// that it takes, whatever the counts say; nothing is taken where it is refused.
+    pub fn read_bytes(alloc: Global, from: &mut Cutter) -> Result<GtidSet, SetFault>
+        ensures ok { IfOk result (λ set. Takes next_set from.old set from.new) }
+        ensures fits { IfOk result (λ set. HasCounts set) }
+        ensures err { IfErr result (λ e. Breaks next_set from.old (unread_of e)) }
+        ensures same { OnErr result (from.new ≡ from.old) }
+    {
+        let mut ahead = from.fork();
+        let runs = take_set(alloc, &mut ahead)?;
+        *from = ahead;
         Ok(GtidSet { runs })
     }
 }

@@ -1,4 +1,4 @@
-use Rattle.std.proofs.Common.{◌≡◌, ◌<◌, length, sym, ap, subst, ◌∙◌, arith}
+use Rattle.std.proofs.Common.{sym, ap, subst, ◌∙◌, arith}
 use Rattle.gtid_sets.specs.Places.{runs_before}
 use Rattle.gtid_sets.specs.Canonical.{IsCanonical}
 use Rattle.gtid_sets.proofs.PutLemmas.{put_end, put_between, put_touching, canonical_with_gtid}

@@ -1,4 +1,4 @@
-use Rattle.std.proofs.Common.{◌≡◌, ◌+◌, ◌<◌, length, ◌∙◌, arith}
+use Rattle.std.proofs.Common.{◌∙◌, arith}
 use Rattle.gtid_sets.proofs.PutLemmas.{put_last, put_before, put_joining}
 use Rattle.gtid_sets.proofs.adding.put_joined.Goals as goal
 

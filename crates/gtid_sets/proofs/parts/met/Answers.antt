@@ -1,4 +1,4 @@
-use Rattle.std.proofs.Common.{◌≡◌, ◌≤◌, ◌⊎◌, ◌++◌, length, inl, inr, sym, ◌∙◌}
+use Rattle.std.proofs.Common.{◌≤◌, ◌⊎◌, length, inl, inr, sym, ◌∙◌}
 use Rattle.gtid_sets.proofs.StepLemmas.{meet_step_left, meet_step_right, meet_end}
 use Rattle.gtid_sets.proofs.parts.met.Goals as goal
 use Rattle.gtid_sets.proofs.parts.met.Goals.{then-loop-i-test+else-j-b, else-loop-i-test}

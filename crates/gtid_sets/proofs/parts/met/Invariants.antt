@@ -1,4 +1,4 @@
-use Rattle.std.proofs.Common.{◌≡◌, ◌+◌, ◌-◌, ◌≤◌, ◌++◌, length, drop}
+use Rattle.std.proofs.Common.{◌≡◌, ◌+◌, ◌-◌, ◌++◌, length, drop}
 use Rattle.gtid_sets.specs.Sets.{meet}
 use Rattle.gtid_sets.proofs.parts.met.Given as goal
 

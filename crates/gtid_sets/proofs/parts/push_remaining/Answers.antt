@@ -1,5 +1,4 @@
-use Rattle.std.proofs.Common.{◌≤◌, ◌<◌, ◌++◌, ◌∷◌, [], sym, ap, ◌∙◌, append_assoc}
-use Rattle.gtid_sets.specs.Sets.{below, minus}
+use Rattle.std.proofs.Common.{◌++◌, sym, ap, ◌∙◌}
 use Rattle.gtid_sets.proofs.StepLemmas.{skip_cut, uncut, cut_to_end, cut_through, regroup}
 use Rattle.gtid_sets.proofs.parts.push_remaining.Goals as goal
 

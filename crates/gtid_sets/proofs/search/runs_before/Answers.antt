@@ -1,4 +1,4 @@
-use Rattle.std.proofs.Common.{◌≤◌, ◌<◌, ◌-◌, ◌+◌, ◌/◌, length, arith}
+use Rattle.std.proofs.Common.{◌<◌, ◌-◌, ◌+◌, ◌/◌, length, arith}
 use Rattle.gtid_sets.proofs.Searching.{within-runs_before, place_le, place_gt}
 use Rattle.gtid_sets.proofs.search.runs_before.Goals as goal
 

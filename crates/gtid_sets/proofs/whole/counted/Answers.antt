@@ -1,4 +1,4 @@
-use Rattle.std.proofs.Common.{◌≡◌, ◌+◌, ◌-◌, [], ap, sym, ◌∙◌, arith}
+use Rattle.std.proofs.Common.{[], arith}
 use Rattle.gtid_sets.proofs.RunLemmas.{run_at}
 use Rattle.gtid_sets.proofs.StepLemmas.{count_below, count_more}
 use Rattle.gtid_sets.proofs.whole.counted.Goals as goal

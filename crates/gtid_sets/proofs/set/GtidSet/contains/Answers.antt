@@ -1,5 +1,4 @@
-use Rattle.std.proofs.Common.{◌≡◌, length, sym, ap, ◌∙◌, arith}
-use Rattle.gtid_sets.specs.Sets.{has}
+use Rattle.std.proofs.Common.{ap, ◌∙◌, arith}
 use Rattle.gtid_sets.specs.Places.{runs_before}
 use Rattle.gtid_sets.proofs.Searching.{absent, looked}
 use Rattle.gtid_sets.proofs.set.GtidSet.contains.Goals as goal
