@@ -1,7 +1,7 @@
 -- A form that is read field by field: how far it is read, and what a fault of a field says of the whole.
-use Rattle.std.proofs.Common.{◌≡◌, ℕ, ◌-◌, ◌≤◌, List, Result, Ok, Err, IfOk, IfErr, refl, sym, ap, subst, ◌∙◌, arith}
+use Rattle.std.proofs.Common.{◌≡◌, ℕ, ◌-◌, ◌≤◌, ◌<◌, List, [], ◌∷◌, length, Result, Ok, Err, IfOk, IfErr, refl, sym, ap, subst, ◌∙◌, arith}
 use Rattle.std.specs.Result.{IsErrAnd}
-use Rattle.byte_forms.specs.Reads.{Read, Got, Fault, Reader, go_on, ◌>>=◌, pure}
+use Rattle.byte_forms.specs.Reads.{Read, Got, Fault, Reader, go_on, ◌>>=◌, pure, at_end, whole}
 use Rattle.byte_forms.specs.Cuts.{Cut, Takes, FaultsAt}
 use Rattle.byte_forms.specs.Unreads.{Breaks}
 use Rattle.byte_forms.specs.declared.faults.Misfit.{Misfit}
@@ -54,7 +54,7 @@ pub err_at : {A : Type 0} (answer : Result A Misfit) (place : ℕ) (P : ℕ → 
 err_at (Ok x) place P h p = tt
 err_at (Err e) place P h p = subst P (sym h) p
 
-pub err_is : {A : Type 0} (answer : Result A Unread) (u : Unread) (P : Unread → Type 0) → IsErrAnd answer (λ e. e ≡ u) → P u → IfErr answer P
+pub err_is : {A E : Type 0} (answer : Result A E) (u : E) (P : E → Type 0) → IsErrAnd answer (λ e. e ≡ u) → P u → IfErr answer P
 err_is (Ok x) u P h p = tt
 err_is (Err e) u P h p = subst P (sym h) p
 
@@ -62,3 +62,21 @@ err_is (Err e) u P h p = subst P (sym h) p
 
 pub takes_equal : {A : Type 0} (read : Reader A) (old : Cut) (x y : A) (new : Cut) → x ≡ y → Takes read old x new → Takes read old y new
 takes_equal {A} read old x y new e h = record { value = h.value ∙ ap (λ (z : A). Got z new.left) e; whole = h.whole }
+
+-- ---- a byte that stands behind the form
+
+-- all that is left of a whole form is its end
+pub whole_ends : {A : Type 0} (form : Reader A) (old : Cut) (x : A) (new : Cut) → Takes form old x new → new.left ≡ [] → whole form old.left ≡ Got x []
+whole_ends {A} form old x new h e =
+    let P : List ℕ → Type 0 = λ bs. whole form old.left ≡ at_end x bs in
+    subst P e (ap (λ r. go_on r at_end) h.value)
+
+at_end-more : {A : Type 0} (x : A) (bytes : List ℕ) → 0 < length bytes → at_end x bytes ≡ Fault (length bytes)
+at_end-more x [] h = absurd (omega arith)
+at_end-more x (b ∷ bs) h = refl
+
+pub whole_goes_on : {A : Type 0} (form : Reader A) (old : Cut) (x : A) (new : Cut) → Takes form old x new → 0 < length new.left → whole form old.left ≡ Fault (length new.left)
+whole_goes_on form old x new h more = ap (λ r. go_on r at_end) h.value ∙ at_end-more x new.left more
+
+pub whole_breaks : {A : Type 0} (form : Reader A) (old : Cut) (at : ℕ) → FaultsAt form old at → whole form old.left ≡ Fault (old.total - at)
+whole_breaks form old at h = ap (λ r. go_on r at_end) h.fault

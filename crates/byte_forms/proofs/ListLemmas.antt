@@ -1,5 +1,5 @@
 -- A list that is read element by element.
-use Rattle.std.proofs.Common.{◌≡◌, ℕ, zero, suc, ◌+◌, ◌-◌, ◌<◌, ◌≤◌, List, [], ◌∷◌, ◌++◌, length, Option, Some, None, refl, sym, ap, subst, ◌∙◌, arith, append_assoc, IfSome}
+use Rattle.std.proofs.Common.{◌≡◌, ℕ, zero, suc, ◌+◌, ◌-◌, ◌^◌, ◌<◌, ◌≤◌, List, [], ◌∷◌, ◌++◌, length, Option, Some, None, refl, sym, ap, subst, ◌∙◌, arith, append_assoc, IfSome}
 use Rattle.std.specs.List.{slice_get, AllByRecursion}
 use Rattle.byte_forms.specs.Cuts.{Cut, Takes, FaultsAt}
 use Rattle.byte_forms.specs.Unreads.{Breaks}
@@ -9,7 +9,7 @@ use Rattle.std.proofs.lemmas.List.{append-nil}
 use Rattle.byte_forms.specs.Reads.{Read, Got, Fault, Reader, go_on, ◌>>=◌, pure}
 use Rattle.byte_forms.specs.Fields.{number_in}
 use Rattle.byte_forms.specs.Lists.{elements, IsChain, list_of}
-use Rattle.byte_forms.proofs.FieldLemmas.{go_on-got}
+use Rattle.byte_forms.proofs.FieldLemmas.{go_on-got, number_in-got}
 
 abbrev pub last_of : {A : Type 0} → List A → Option A
 last_of [] = None
@@ -115,6 +115,26 @@ pub list_chain : {A : Type 0} (least : ℕ) (IsNext : Option A → A → Type 0)
 list_chain least IsNext read next bytes rest xs e =
     let f = go_on-got (number_in 4 least 4294967295 bytes) (elements read None) xs rest e in
     elements_chain IsNext read next f.first None f.behind rest xs f.then_reads
+
+elements_length : {A : Type 0} (read : Option A → Reader A) (n : ℕ) (before : Option A) (bytes rest : List ℕ) (xs : List A) → elements read before n bytes ≡ Got xs rest → length xs ≡ n
+unfolding elements
+elements_length read zero before bytes rest [] e = refl
+elements_length read zero before bytes rest (x ∷ xs) e = absurd cc
+elements_length {A} read (suc n) before bytes rest xs e =
+    let f = go_on-got (read before bytes) (λ x. elements read (Some x) n >>= λ ys. pure (x ∷ ys)) xs rest e in
+    let g = go_on-got (elements read (Some f.first) n f.behind) (λ ys. pure (f.first ∷ ys)) xs rest f.then_reads in
+    let later = elements_length read n (Some f.first) f.behind g.behind g.first g.reads in
+    let end : Got (f.first ∷ g.first) g.behind ≡ Got xs rest = g.then_reads in
+    let is : f.first ∷ g.first ≡ xs = cc in
+    ap length (sym is) ∙ ap suc later
+
+-- a list that is read has no more elements than four bytes count
+pub list_few : {A : Type 0} (least : ℕ) (read : Option A → Reader A) (bytes rest : List ℕ) (xs : List A) → list_of least read bytes ≡ Got xs rest → length xs < 2 ^ 32
+list_few least read bytes rest xs e =
+    let f = go_on-got (number_in 4 least 4294967295 bytes) (elements read None) xs rest e in
+    let count = number_in-got 4 least 4294967295 f.first bytes f.behind (omega arith) f.reads in
+    let long = elements_length read f.first None f.behind rest xs f.then_reads in
+    omega (arith, long, count.below)
 
 pub chain_all : {A : Type 0} (IsNext : Option A → A → Type 0) (P : A → Type 0) → ((before : Option A) (x : A) → IsNext before x → P x) → (before : Option A) (xs : List A) → IsChain IsNext before xs → AllByRecursion P xs
 chain_all IsNext P each before [] h = tt

@@ -206,9 +206,10 @@ impl<'a> Cutter<'a> {
 
     /// Refused as `TooLong` where a byte is left.
     pub fn end(&self) -> Result<(), CutFault>
-        ensures { MatchResult result
+        ensures ends { MatchResult result
             (λ _. self.now.left ≡ [])
             (λ e. (e ≡ CutFault.TooLong (self.now.total - length self.now.left)) × (0 < length self.now.left)) }
+        ensures within { length self.now.left ≤ self.now.total }
     {
         if self.left.is_empty() {
             Ok(())

@@ -11,8 +11,10 @@ use key_items::{Change, ChangeKind, WriteSet};
 use std::alloc::Global;
 
 /// The changes of the items of a write set.
+#[derive(Drop)]
 pub(crate) struct Changes<'a> {
     pub(crate) items: &'a WriteSet,
+    ghost few: { length items.now < 2 ^ 32 },
 }
 
 impl ListForm for Changes<'_> {
@@ -24,9 +26,14 @@ impl ListForm for Changes<'_> {
 
     ghost CanPrecede = { λ form change. Unit {0} };
 
-    ghost CanPut = { λ form change. (length form.items.now < 2 ^ 32) × IsChange form.items.now change };
+    ghost CanPut = { λ form change. IsChange form.items.now change };
 
-    fn take_next(&self, alloc: Global, from: &mut Cutter, _before: Option<&Change>) -> Result<Change, Unread> {
+    fn take_next(
+        &self,
+        alloc: Global,
+        from: &mut Cutter,
+        _before: Option<&Change>,
+    ) -> Result<Change, Unread> {
         take_change(alloc, from, self.items)
     }
 
@@ -37,10 +44,11 @@ impl ListForm for Changes<'_> {
 
 // A change of one of the items.
 fn take_change(alloc: Global, from: &mut Cutter, items: &WriteSet) -> Result<Change, Unread>
+    requires { length items.now < 2 ^ 32 }
     ensures ok { IfOk result (λ change. Takes (next_change items.now) from.old change from.new) }
     ensures misfit { IfErr result (λ e. Breaks (next_change items.now) from.old e) }
 {
-    let index = take_index(from, items.len())?;
+    let index = take_index(from, items.len() as u32)?;
     let what = take_kind(alloc, from)?;
     let item = match items.at(index) {
         Some(item) => item.try_copy(alloc)?,
@@ -50,15 +58,15 @@ fn take_change(alloc: Global, from: &mut Cutter, items: &WriteSet) -> Result<Cha
 }
 
 // An index below the count.
-fn take_index(from: &mut Cutter, count: usize) -> Result<u32, Misfit>
+fn take_index(from: &mut Cutter, count: u32) -> Result<u32, Misfit>
     ensures ok { IfOk result (λ n. Takes (next_index count) from.old n from.new) }
     ensures misfit { IfErr result (λ e. FaultsAt (next_index count) from.old e.at) }
     ensures err { OnErr result (from.new ≡ from.old) }
 {
-    if count == 0 {
-        return from.take_u32_in(1, 0);
+    match count {
+        0 => from.take_u32_in(1, 0),
+        _ => from.take_u32_in(0, count - 1),
     }
-    from.take_u32_in(0, (count - 1).min(u32::MAX as usize) as u32)
 }
 
 // What the change does.
