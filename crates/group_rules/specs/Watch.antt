@@ -4,12 +4,8 @@
 use Rattle.std.specs.Prelude.{ℕ, suc, ◌+◌, ◌/◌, Bool, true, false, ◌&&◌, not, List, [], ◌∷◌, ◌++◌, length, nat_lt, nat_le, ◌==◌, filter, map}
 use Rattle.gr_ids.specs.Names.{inc_eq}
 use Rattle.group_rules.specs.Names.{Inc, Joiner, What, Add, Remove, Effect, Plain, WelcomeMember}
+pub use Rattle.group_rules.specs.declared.watch.Silence.{Silence}
 use Rattle.group_rules.specs.Events.{Founds, Came, Took, Enters, Life, Setup, Hears, Ticks}
-
--- a member, and the own ticks since it was heard
-pub record Silence : Type 0 where
-  pub inc : Inc
-  pub ticks : ℕ
 
 -- The silences of the members, and the ticks in a row, up to the last one, at which the majority was lost.
 pub record Watch : Type 0 where

@@ -14,6 +14,7 @@ mod marks;
 mod requests;
 mod said;
 mod steps;
+mod watch;
 
 pub use answers::{Answer, Holder, Outcome};
 pub use holds::{Conditions, Pending};
@@ -21,6 +22,7 @@ pub use marks::{Cause, Effect, Mark, Reply};
 pub use requests::{Operator, Request};
 pub use said::{ItemWriter, Look, QueuedPlace, Row, Said, Shown, ShownMember, WireLine};
 pub use steps::Step;
+pub use watch::Silence;
 
 /// A member's events have exactly one lawful history: its marks and messages are determined.
 pub fn one_history()

@@ -1,0 +1,45 @@
+-- A member that watches the others: who it is, its limits, and the watch that it keeps.
+use Rattle.std.specs.Prelude.{ℕ, Bool, ◌&&◌, not, List, [], filter, map, min}
+use Rattle.std.specs.List.{list_any}
+use Rattle.gr_ids.specs.declared.names.Inc.{Inc}
+use Rattle.gr_ids.specs.declared.limits.Limits.{Limits}
+use Rattle.gr_ids.specs.Names.{inc_eq, has_inc}
+use Rattle.group_rules.specs.Watch.{Silence, Watch, no_watch, follow_all, ticked, is_expel_due, leads_by_rank}
+
+pub record Watching : Type 0 where
+  pub me : Inc
+  pub limits : Limits
+  pub watch : Watch
+
+abbrev pub first_watch : Inc → Limits → List Inc → Watching
+first_watch me x members = record { me = me; limits = x; watch = follow_all no_watch members }
+
+-- ---- the members change: those that are none any more aren't watched, and of new ones silence is counted from now on
+
+abbrev pub is_watched : List Silence → Inc → Bool
+is_watched xs i = list_any (λ x. inc_eq x.inc i) xs
+
+abbrev pub kept : List Inc → Watch → Watch
+kept members w = record w { silences = filter (λ x. has_inc members x.inc) w.silences }
+
+abbrev pub newcomers : Watch → List Inc → List Inc
+newcomers w members = filter (λ i. not (is_watched w.silences i)) members
+
+abbrev pub followed : List Inc → Watch → Watch
+followed members w = follow_all (kept members w) (newcomers w members)
+
+-- ---- ticks
+
+-- 2 ^ 64 - 1
+abbrev pub last_count : ℕ
+last_count = 18446744073709551615
+
+-- a count that stands at its last value stays there
+abbrev pub capped : Watch → Watch
+capped w = record { silences = map {A = Silence} (λ x. record x { ticks = min x.ticks last_count }) w.silences; lost_for = min w.lost_for last_count }
+
+-- ---- expulsion
+
+-- this member is to offer a Remove of the other one
+abbrev pub is_due : Watching → Inc → List Inc → Bool
+is_due x i online = not (inc_eq i x.me) && (is_expel_due x.limits.expel x.watch i && leads_by_rank x.me x.watch online)

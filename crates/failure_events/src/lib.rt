@@ -1,0 +1,9 @@
+//! Silence: who hasn't been heard for too long, and whether the majority is lost.
+#![tactic(auto)]
+
+mod counting;
+mod following;
+
+mod watch;
+
+pub use watch::Watch;
