@@ -1,1 +1,3 @@
 pub mod EachOne
+pub mod Watched
+pub mod Ticking

@@ -1,10 +1,11 @@
 -- A member that watches the others: who it is, its limits, and the watch that it keeps.
-use Rattle.std.specs.Prelude.{ℕ, Bool, ◌&&◌, not, List, [], filter, map, min}
+use Rattle.std.specs.Prelude.{ℕ, Bool, ◌&&◌, not, List, ◌++◌, filter, map, min}
 use Rattle.std.specs.List.{list_any}
 use Rattle.gr_ids.specs.declared.names.Inc.{Inc}
 use Rattle.gr_ids.specs.declared.limits.Limits.{Limits}
 use Rattle.gr_ids.specs.Names.{inc_eq, has_inc}
-use Rattle.group_rules.specs.Watch.{Silence, Watch, no_watch, follow_all, ticked, is_expel_due, leads_by_rank}
+use Rattle.group_rules.specs.declared.watch.Silence.{Silence}
+use Rattle.group_rules.specs.Watch.{Watch, no_watch, follow_all, ticked, is_expel_due, leads_by_rank}
 
 pub record Watching : Type 0 where
   pub me : Inc
@@ -19,14 +20,18 @@ first_watch me x members = record { me = me; limits = x; watch = follow_all no_w
 abbrev pub is_watched : List Silence → Inc → Bool
 is_watched xs i = list_any (λ x. inc_eq x.inc i) xs
 
-abbrev pub kept : List Inc → Watch → Watch
-kept members w = record w { silences = filter (λ x. has_inc members x.inc) w.silences }
+-- a member is watched from now on
+abbrev pub unheard : Inc → Silence
+unheard i = record { inc = i; ticks = 0 }
 
-abbrev pub newcomers : Watch → List Inc → List Inc
-newcomers w members = filter (λ i. not (is_watched w.silences i)) members
+abbrev pub newcomers : List Silence → List Inc → List Inc
+newcomers xs members = filter (λ i. not (is_watched xs i)) members
+
+abbrev pub silences_of : List Inc → List Silence → List Silence
+silences_of members xs = filter (λ x. has_inc members x.inc) xs ++ map unheard (newcomers xs members)
 
 abbrev pub followed : List Inc → Watch → Watch
-followed members w = follow_all (kept members w) (newcomers w members)
+followed members w = record w { silences = silences_of members w.silences }
 
 -- ---- ticks
 

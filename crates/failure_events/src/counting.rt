@@ -1,7 +1,7 @@
 // Counts of silence.
 ghost use Rattle.std.specs.Prelude.{◌≡◌, filter, length, map, not};
 ghost use Rattle.group_rules.specs.Watch.{is_lost, is_suspect, silence_in};
-ghost use Rattle.failure_events.specs.Counts.{heard_from, is_suspected_in, leads_in, one_more};
+ghost use Rattle.failure_events.specs.Counts.{heard_from, is_suspected_in, leads_in, next_loss, one_more};
 
 use gr_ids::Inc;
 use group_rules::Silence;
@@ -27,7 +27,13 @@ fn hear_one(silence: &mut Silence, inc: Inc)
 }
 
 /// One tick more for each.
-pub(crate) fn tick_each(silences: &mut [Silence])
+pub(crate) fn tick_all(silences: &mut Vec<Silence>)
+    ensures { silences.new.items ≡ map one_more silences.old.items }
+{
+    tick_each(silences);
+}
+
+fn tick_each(silences: &mut [Silence])
     ensures { silences.new ≡ map one_more silences.old }
 {
     for silence in silences.iter_mut() {
@@ -73,6 +79,13 @@ pub(crate) fn is_majority_lost(me: Inc, silences: &[Silence]) -> bool
         return false;
     }
     heard_count(me, silences) < silences.len() / 2 + 1
+}
+
+/// At how many ticks in a row the majority was lost, after one more.
+pub(crate) fn next_count(lost: bool, count: u64) -> u64
+    ensures { result ≡ next_loss lost count }
+{
+    if lost { count.saturating_add(1) } else { 0 }
 }
 
 fn heard_count(me: Inc, silences: &[Silence]) -> usize

@@ -1,25 +1,25 @@
 // Who is watched.
 ghost use Rattle.std.specs.Prelude.{◌≡◌, IfOk, filter, map, not};
 ghost use Rattle.gr_ids.specs.Names.{has_inc};
-ghost use Rattle.group_rules.specs.Watch.{follow_all, no_watch};
-ghost use Rattle.failure_events.specs.Counts.{watch_of};
-ghost use Rattle.failure_events.specs.Watching.{followed, is_watched};
+ghost use Rattle.failure_events.specs.Watching.{is_watched, silences_of, unheard};
 
 use gr_ids::{Inc, Memory};
 use group_rules::Silence;
 use std::alloc::Global;
 
 /// Nobody has been silent yet.
-pub(crate) fn silences_of(alloc: Global, members: &[Inc]) -> Result<Vec<Silence>, Memory>
-    ensures { IfOk result (λ v. v.items ≡ (follow_all no_watch members.now).silences) }
+pub(crate) fn unheard_of(alloc: Global, members: &[Inc]) -> Result<Vec<Silence>, Memory>
+    ensures { IfOk result (λ v. v.items ≡ map unheard members.now) }
 {
-    Ok(members
-        .iter()
-        .map(|inc| Silence {
-            inc: *inc,
-            ticks: 0,
-        })
-        .collect(alloc)?)
+    Ok(
+        members
+            .iter()
+            .map(|inc| Silence {
+                inc: *inc,
+                ticks: 0,
+            })
+            .collect(alloc)?,
+    )
 }
 
 /// The silences of these members: that of one not watched so far begins.
@@ -28,39 +28,35 @@ pub(crate) fn followed_by(
     silences: &[Silence],
     members: &[Inc],
 ) -> Result<Vec<Silence>, Memory>
-    ensures { IfOk result (λ v. v.items ≡ (followed members.now (watch_of silences.now)).silences) }
+    ensures { IfOk result (λ v. v.items ≡ silences_of members.now silences.now) }
 {
     let mut next = staying(alloc, silences, members)?;
-    next.extend_from_slice(&silences_of(alloc, &newcomers(alloc, silences, members)?)?)?;
+    next.extend_from_slice(&unheard_of(alloc, &newcomers(alloc, silences, members)?)?)?;
     Ok(next)
 }
 
-fn staying(
-    alloc: Global,
-    silences: &[Silence],
-    members: &[Inc],
-) -> Result<Vec<Silence>, Memory>
+fn staying(alloc: Global, silences: &[Silence], members: &[Inc]) -> Result<Vec<Silence>, Memory>
     ensures { IfOk result (λ v. v.items ≡ filter (λ x. has_inc members.now x.inc) silences.now) }
 {
-    Ok(silences
-        .iter()
-        .filter(|silence| is_among(members, silence.inc))
-        .copied()
-        .collect(alloc)?)
+    Ok(
+        silences
+            .iter()
+            .filter(|silence| is_among(members, silence.inc))
+            .copied()
+            .collect(alloc)?,
+    )
 }
 
-fn newcomers(
-    alloc: Global,
-    silences: &[Silence],
-    members: &[Inc],
-) -> Result<Vec<Inc>, Memory>
+fn newcomers(alloc: Global, silences: &[Silence], members: &[Inc]) -> Result<Vec<Inc>, Memory>
     ensures { IfOk result (λ v. v.items ≡ filter (λ i. not (is_watched silences.now i)) members.now) }
 {
-    Ok(members
-        .iter()
-        .filter(|inc| !is_watched_here(silences, **inc))
-        .copied()
-        .collect(alloc)?)
+    Ok(
+        members
+            .iter()
+            .filter(|inc| !is_watched_here(silences, **inc))
+            .copied()
+            .collect(alloc)?,
+    )
 }
 
 fn is_among(members: &[Inc], inc: Inc) -> bool

@@ -3,7 +3,8 @@
 
 mod counting;
 mod following;
-
+#[cfg(test)]
+mod tests;
 mod watch;
 
 pub use watch::Watch;

@@ -4,8 +4,10 @@ ghost use Rattle.gr_ids.specs.declared.memory.Memory.{Memory};
 ghost use Rattle.group_rules.specs.Watch.{heard, is_lost, suspects, ticked};
 ghost use Rattle.failure_events.specs.Watching.{capped, first_watch, followed, is_due};
 
-use crate::counting::{hear, is_majority_lost, is_suspected, leads, silence_of, tick_each};
-use crate::following::{followed_by, silences_of};
+use crate::counting::{
+    hear, is_majority_lost, is_suspected, leads, next_count, silence_of, tick_all,
+};
+use crate::following::{followed_by, unheard_of};
 use gr_ids::{Inc, Limits, Memory};
 use group_rules::Silence;
 use std::alloc::Global;
@@ -31,18 +33,13 @@ impl Model for Watch {
 
 impl Watch {
     /// The members are watched from now on. Linear in them.
-    pub fn new(
-        alloc: Global,
-        me: Inc,
-        members: &[Inc],
-        limits: Limits,
-    ) -> Result<Watch, Memory>
+    pub fn new(alloc: Global, me: Inc, members: &[Inc], limits: Limits) -> Result<Watch, Memory>
         ensures { IfOk result (λ w. w ≡ first_watch me limits members.now) }
     {
         Ok(Watch {
             me,
             limits,
-            silences: silences_of(alloc, members)?,
+            silences: unheard_of(alloc, members)?,
             lost_for: 0,
         })
     }
@@ -67,12 +64,9 @@ impl Watch {
     pub fn tick(&mut self)
         ensures { self.new ≡ record self.old { watch = capped (ticked self.old.me self.old.watch) } }
     {
-        tick_each(&mut self.silences);
-        self.lost_for = if self.majority_lost() {
-            self.lost_for.saturating_add(1)
-        } else {
-            0
-        };
+        tick_all(&mut self.silences);
+        let lost = is_majority_lost(self.me, &self.silences);
+        self.lost_for = next_count(lost, self.lost_for);
     }
 
     /// Whether it is suspected: at a silence of 5 ticks. Linear in the members.
