@@ -3,7 +3,7 @@ use Rattle.std.specs.Prelude.{ℕ, zero, suc, ◌+◌, ◌-◌, ◌/◌, ◌%◌
 use Rattle.gr_ids.specs.Uuids.{uuid_text}
 use Rattle.gtid_sets.specs.Sets.{Gtids}
 use Rattle.group_rules.specs.Names.{Inc, Ballot, ValueId, Gtid, MemberState, Online, Recovering, Offline, Error, Mode, Single, Multi, Item, What, Noop, Add, Remove, Says, ToMulti, ToSingle, Body, Writes, Prepared, Sync, Executed, Arrives, Switches, Appoints, PartOf, Effect, Void, Positive, Conflict, Cause, Removed, WasGone, NoMajority, Extra, NoDonor, Holder, BySession, ByPlace, Answer, BegunWith, Held, Got, IsChanged, Sent, CommittedEmpty, CommittedAs, RolledBack, Busy, NoTransaction, NotOnline, ReadOnly, RowLocked, DuplicateKey, NoRow, Killed, ConflictWith, HoldTimeout, MemberLeft, Undecided, NotAcknowledged, TooLarge, Reply, SentAs, AtBallot, Asked, Failed, Finished, IsNotOnline, NoAskDue, NoAskPending, NotQueued, AlreadyDone, Mark, TookMark, SkippedMark, DoneMark, CommittedMark, StateMark, GivenMark, AnsweredMark, RepliedMark}
-use Rattle.gtid_sets.specs.Spelling.{Interval, Source, sources_of}
+use Rattle.gtid_sets.specs.Text.{set_text as canonical_text}
 use Rattle.txn_forms.specs.Bodies.{read_body}
 use Rattle.group_rules.specs.declared.said.Shown.{Shown}
 use Rattle.group_rules.specs.declared.said.Shown.TheVariants.{State as InState, Unreachable}
@@ -42,20 +42,10 @@ id_text i = inc_text i.origin ++ codes "#" ++ decimal i.number
 abbrev pub gtid_text : Gtid → Text
 gtid_text g = uuid_text g.source ++ codes ":" ++ decimal g.number
 
-abbrev pub interval_text : Interval → Text
-interval_text r = elim (r.first == r.last) [ true ↦ codes ":" ++ decimal r.first | false ↦ codes ":" ++ decimal r.first ++ codes "-" ++ decimal r.last ]
-
-abbrev pub source_text : Source → Text
-source_text s = uuid_text s.uuid ++ flat_map interval_text s.intervals
-
-abbrev pub sources_text : List Source → Text
-sources_text [] = codes "-"
-sources_text (s ∷ []) = source_text s
-sources_text (s ∷ t ∷ ss) = source_text s ++ codes "," ++ sources_text (t ∷ ss)
-
 -- the canonical text of a set; that of the empty one is a dash
 abbrev pub set_text : Gtids → Text
-set_text e = sources_text (sources_of e)
+set_text [] = codes "-"
+set_text (r ∷ rs) = canonical_text (r ∷ rs)
 
 abbrev pub inc_or_dash : Option Inc → Text
 inc_or_dash None = codes "-"
