@@ -3,3 +3,4 @@ pub mod FieldLemmas
 pub mod FormLemmas
 pub mod PackLemmas
 pub mod ListLemmas
+pub mod ChainLemmas

@@ -63,6 +63,14 @@ impl<'a> Cutter<'a> {
         self.total - self.left.len() as u64
     }
 
+    /// The place from which on so many bytes of the input are left.
+    pub fn place(&self, left: usize) -> u64
+        requires { left ≤ length self.now.left }
+        ensures { result + left ≡ self.now.total }
+    {
+        self.total - left as u64
+    }
+
     /// The number of the next byte, refused as `Short` where fewer are left.
     pub fn take_u8(&mut self) -> Result<u8, CutFault>
         ensures ok { IfOk result (λ n. self.old.left ≡ number 1 n ++ self.new.left) }
@@ -198,9 +206,10 @@ impl<'a> Cutter<'a> {
 
     /// Refused as `TooLong` where a byte is left.
     pub fn end(&self) -> Result<(), CutFault>
-        ensures { MatchResult result
+        ensures ends { MatchResult result
             (λ _. self.now.left ≡ [])
             (λ e. (e ≡ CutFault.TooLong (self.now.total - length self.now.left)) × (0 < length self.now.left)) }
+        ensures within { length self.now.left ≤ self.now.total }
     {
         if self.left.is_empty() {
             Ok(())

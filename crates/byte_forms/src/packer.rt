@@ -86,6 +86,18 @@ impl Packer {
         self.bytes.truncate(len);
     }
 
+    /// Hands on the answer of some puts. Where memory was refused, all behind the first `len` bytes is taken back.
+    pub fn settle(&mut self, len: usize, put: Result<(), Memory>) -> Result<(), Memory>
+        ensures same { result ≡ put }
+        ensures ok { OnOk put (self.new ≡ self.old) }
+        ensures err { OnErr put (self.new ≡ take len self.old) }
+    {
+        if put.is_err() {
+            self.truncate(len);
+        }
+        put
+    }
+
     /// The bytes; takes no memory.
     pub fn finish(self) -> Vec<u8>
         ensures { result.items ≡ self }

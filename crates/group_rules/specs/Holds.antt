@@ -10,6 +10,8 @@ use Rattle.group_rules.specs.Life.{state, is_up, is_recovering, view, own_place,
 use Rattle.group_rules.specs.Queue.{pending}
 use Rattle.group_rules.specs.Commit.{is_prepared}
 use Rattle.group_rules.specs.Sessions.{Call}
+pub use Rattle.group_rules.specs.declared.holds.Conditions.{Conditions}
+pub use Rattle.group_rules.specs.declared.holds.Pending.{Pending}
 
 -- ---- levels
 
@@ -30,14 +32,6 @@ is_after BeforeAndAfter = true
 is_after _ = false
 
 -- ---- the conditions of a begin, fixed at its call
-
--- These AFTER transactions are to be committed; all certified ones before the place of this Sync, before the place of this election, and before this
--- Online entry are to be committed.
-pub record Conditions : Type 0 where
-  pub after : List Gtid
-  pub sync : Option ValueId
-  pub elected : Option ℕ
-  pub online : Option ℕ
 
 -- while ONLINE or RECOVERING: every AFTER transaction that is prepared and uncommitted here
 abbrev pub after_then : Inc → Life → List Gtid
@@ -64,28 +58,35 @@ conditions s me v past = record { after = after_then me past; sync = sync_then m
 
 -- ---- whether they hold, by what is pending
 
-abbrev pub is_pending : List Cert → Gtid → Bool
-is_pending cs g = list_any (λ c. gtid_eq c.gtid g) cs
+abbrev pub standing_of : Cert → Pending
+standing_of c = record { place = c.place; gtid = c.gtid }
+
+-- those that are pending now, by ascending place
+abbrev pub standing : Life → List Pending
+standing l = map standing_of (pending l)
+
+abbrev pub is_pending : List Pending → Gtid → Bool
+is_pending xs g = list_any (λ x. gtid_eq x.gtid g) xs
 
 -- no place below this one is pending
-abbrev pub is_clear : List Cert → ℕ → Bool
-is_clear cs p = list_all (λ c. not (nat_lt c.place p)) cs
+abbrev pub is_clear : List Pending → ℕ → Bool
+is_clear xs p = list_all (λ x. not (nat_lt x.place p)) xs
 
-abbrev pub is_clear_at : List Cert → Option ℕ → Bool
-is_clear_at cs None = true
-is_clear_at cs (Some p) = is_clear cs p
+abbrev pub is_clear_at : List Pending → Option ℕ → Bool
+is_clear_at xs None = true
+is_clear_at xs (Some p) = is_clear xs p
 
 -- where the Sync isn't taken, this doesn't hold
-abbrev pub is_synced : List Cert → Option ValueId → Option ℕ → Bool
-is_synced cs None p = true
-is_synced cs (Some i) None = false
-is_synced cs (Some i) (Some p) = is_clear cs p
+abbrev pub is_synced : List Pending → Option ValueId → Option ℕ → Bool
+is_synced xs None p = true
+is_synced xs (Some i) None = false
+is_synced xs (Some i) (Some p) = is_clear xs p
 
 -- `sync_place` is the place of the Sync, if it is taken
-abbrev pub is_met : Conditions → Option ℕ → List Cert → Bool
-is_met x sync_place cs =
-    (list_all (λ g. not (is_pending cs g)) x.after && is_synced cs x.sync sync_place)
-    && (is_clear_at cs x.elected && is_clear_at cs x.online)
+abbrev pub is_met : Conditions → Option ℕ → List Pending → Bool
+is_met x sync_place xs =
+    (list_all (λ g. not (is_pending xs g)) x.after && is_synced xs x.sync sync_place)
+    && (is_clear_at xs x.elected && is_clear_at xs x.online)
 
 abbrev pub sync_place : Inc → Option ValueId → Life → Option ℕ
 sync_place me None l = None
@@ -93,7 +94,7 @@ sync_place me (Some i) l = own_place l me i.number
 
 -- all conditions of a held begin hold now
 abbrev pub is_released : Setup → Inc → Call → Life → Bool
-is_released s me c l = let x = conditions s me c.level c.past in is_met x (sync_place me x.sync l) (pending l)
+is_released s me c l = let x = conditions s me c.level c.past in is_met x (sync_place me x.sync l) (standing l)
 
 -- the place of the Sync of a begin
 abbrev pub sync_told : Inc → Call → Life → Option ℕ

@@ -3,7 +3,7 @@
 use Rattle.std.specs.Prelude.{ℕ, ◌+◌, Bool, true, false, ◌&&◌, not, Option, Some, None, List, [], ◌∷◌, nat_lt, ◌==◌, if◌then◌else◌, filter, map}
 use Rattle.std.specs.List.{list_any}
 use Rattle.gr_ids.specs.Names.{inc_eq, inc_lt, is_inc, bytes_eq, bytes_lt}
-pub use Rattle.node_rules.specs.Welcoming.{Seat}
+pub use Rattle.node_rules.specs.declared.seat.Seat.{Seat}
 use Rattle.node_rules.specs.Welcoming.{Shown}
 use Rattle.group_rules.specs.Names.{Inc, MemberState, Online, Recovering, Mode, Single, Multi, Joiner, What, Add, Remove, ToMulti, ToSingle, Body, Arrives, Switches, Appoints, Effect, Plain, Void, Unread}
 

@@ -9,12 +9,14 @@ ghost use Rattle.group_rules.specs.Member.{Member};
 ghost use Rattle.group_rules.specs.Histories.{History, IsLawful, events, history_of};
 
 mod answers;
+mod holds;
 mod marks;
 mod requests;
 mod said;
 mod steps;
 
 pub use answers::{Answer, Holder, Outcome};
+pub use holds::{Conditions, Pending};
 pub use marks::{Cause, Effect, Mark, Reply};
 pub use requests::{Operator, Request};
 pub use said::{ItemWriter, Look, QueuedPlace, Row, Said, Shown, ShownMember, WireLine};

@@ -1,2 +1,4 @@
 pub mod Order
 pub mod Sets
+pub mod Above
+pub mod ItemLemmas

@@ -1,8 +1,9 @@
 -- Ascending lists of items: where an item stands in one, and what an insertion leaves.
-use Rattle.std.proofs.Common.{◌≡◌, ℕ, zero, suc, ◌+◌, ◌<◌, ◌≤◌, ◌&&◌, Bool, true, false, not, List, [], ◌∷◌, length, get_or, refl, sym, ap, ◌∙◌, subst, arith, cond, add-one, Less, Equal, Greater, Result, Ok, Err}
+use Rattle.std.proofs.Common.{◌≡◌, ℕ, zero, suc, ◌+◌, ◌<◌, ◌≤◌, ◌&&◌, Bool, true, false, not, List, [], ◌∷◌, length, get_or, slice_get, refl, sym, ap, ◌∙◌, subst, arith, cond, add-one, Less, Equal, Greater, Result, Ok, Err, Some}
 use Rattle.std.specs.List.{insert, list_any, HoldsAt}
 use Rattle.std.specs.List.Sorted.{IsNonDecreasingBy, IsPartitionPoint, IsSearchInRange, IsBinarySearchResult}
 use Rattle.std.specs.Result.{is_ok}
+use Rattle.std.proofs.lemmas.Option.{slice_get-get_or}
 use Rattle.std.specs.Ordering.{ordering_index, ordering_reverse, is_lt, is_eq}
 use Rattle.std.proofs.lemmas.List.Sorted.{searchable_from_sorted}
 use Rattle.key_items.specs.Items.{Item, item_eq, item_lt, has_item, share, ascend, with_item}
@@ -104,6 +105,9 @@ search_premise xs i h = searchable_from_sorted item_cmp_total (λ y. y) xs i (λ
 
 pub is_found : (xs : List Item) (i : Item) (k : ℕ) → ascend xs ≡ true → k < length xs → HoldsAt (λ y. item_cmp y i ≡ Equal) xs k → (with_item xs i ≡ xs) × (has_item xs i ≡ true)
 is_found xs i k h l e = found_in xs i i k h l (item_eq_same (get_or xs k i) i (item_eq_cmp (get_or xs k i) i ∙ ap is_eq (e i)))
+
+pub found_at : (xs : List Item) (i : Item) (k : ℕ) → k < length xs → HoldsAt (λ y. item_cmp y i ≡ Equal) xs k → slice_get xs k ≡ Some i
+found_at xs i k l e = slice_get-get_or xs k i l ∙ ap (λ (j : Item). Some j) (item_eq_same (get_or xs k i) i (item_eq_cmp (get_or xs k i) i ∙ ap is_eq (e i)))
 
 pub is_missing : (xs : List Item) (i : Item) (at : ℕ) → ascend xs ≡ true → at ≤ length xs
     → (IsNonDecreasingBy (λ y. ordering_index (item_cmp y i)) xs → IsPartitionPoint (λ y. item_cmp y i ≡ Less) (λ y. item_cmp y i ≡ Greater) xs at)

@@ -2,11 +2,14 @@
 #![tactic(auto)]
 
 mod change;
+mod floors;
 mod item;
+mod spelling;
 #[cfg(test)]
 mod tests;
 mod write_set;
 
 pub use change::{Change, ChangeKind};
 pub use item::{Item, KeptItem};
+pub use spelling::{put_item, put_write_set, take_item_after, take_write_set};
 pub use write_set::WriteSet;

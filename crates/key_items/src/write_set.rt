@@ -1,5 +1,5 @@
 // The set of the items that a transaction writes.
-ghost use Rattle.std.specs.Prelude.{◌≡◌, ◌≤◌, not, IfOk, MatchOption, OnErr, OnOk, Some, [], length, slice_get};
+ghost use Rattle.std.specs.Prelude.{◌≡◌, ◌≤◌, ◌<◌, not, false, IfOk, MatchOption, OnErr, OnOk, Some, [], length, slice_get};
 ghost use Rattle.std.specs.Iterator.Adapters.{IterYieldsInOrder};
 ghost use Rattle.std.specs.Slice.Iter.{iter_rest};
 ghost use Rattle.gr_ids.specs.declared.memory.Memory.{Memory};
@@ -73,6 +73,17 @@ impl WriteSet {
         ensures { result ≡ has_item self.now item.now }
     {
         self.items.binary_search(item).is_ok()
+    }
+
+    /// The index of the item, None exactly where it isn't in the set. Logarithmic in the items.
+    pub fn position(&self, item: &Item) -> Option<usize>
+        ensures at { MatchOption result (has_item self.now item.now ≡ false) (λ at. (at < length self.now) × (slice_get self.now at ≡ Some item.now)) }
+        ensures ascend { Ascend self.now }
+    {
+        match self.items.binary_search(item) {
+            Ok(at) => Some(at),
+            Err(_) => None,
+        }
     }
 
     /// Whether the two sets have an item in common. Linear in the items of both; takes no memory.

@@ -1,5 +1,5 @@
-// Names cut from bytes. Each call takes constant time.
-ghost use Rattle.std.specs.Prelude.{◌≡◌, ◌≤◌, IfErr, IfOk, IfSome};
+// Names cut from bytes. Each call takes constant time. A refusal changes nothing.
+ghost use Rattle.std.specs.Prelude.{◌≡◌, ◌≤◌, IfErr, IfOk, IfSome, OnErr};
 ghost use Rattle.byte_forms.specs.Cuts.{FaultsAt, Takes};
 ghost use Rattle.name_forms.specs.Incs.{least_server as least_server_of, least_start as least_start_of, next_inc, next_inc_after};
 ghost use Rattle.name_forms.specs.Ballots.{next_ballot};
@@ -20,9 +20,12 @@ const LAST_SERVER: u8 = 32;
 pub fn take_inc(from: &mut Cutter) -> Result<Inc, Misfit>
     ensures ok { IfOk result (λ inc. Takes next_inc from.old inc from.new) }
     ensures misfit { IfErr result (λ e. FaultsAt next_inc from.old e.at) }
+    ensures err { OnErr result (from.new ≡ from.old) }
 {
-    let server = from.take_u8_in(1, LAST_SERVER)?;
-    let start = from.take_u32_in(1, u32::MAX)?;
+    let mut ahead = from.fork();
+    let server = ahead.take_u8_in(1, LAST_SERVER)?;
+    let start = ahead.take_u32_in(1, u32::MAX)?;
+    *from = ahead;
     Ok(Inc { server, start })
 }
 
@@ -31,10 +34,14 @@ pub fn take_inc(from: &mut Cutter) -> Result<Inc, Misfit>
 pub fn take_inc_after(from: &mut Cutter, before: Option<Inc>) -> Result<Inc, Misfit>
     requires { IfSome before (λ b. b.server ≤ 32) }
     ensures ok { IfOk result (λ inc. Takes (next_inc_after before) from.old inc from.new) }
+    ensures range { IfOk result (λ inc. inc.server ≤ 32) }
     ensures misfit { IfErr result (λ e. FaultsAt (next_inc_after before) from.old e.at) }
+    ensures err { OnErr result (from.new ≡ from.old) }
 {
-    let server = from.take_u8_in(least_server(before), LAST_SERVER)?;
-    let start = from.take_u32_in(least_start(before, server), u32::MAX)?;
+    let mut ahead = from.fork();
+    let server = ahead.take_u8_in(least_server(before), LAST_SERVER)?;
+    let start = ahead.take_u32_in(least_start(before, server), u32::MAX)?;
+    *from = ahead;
     Ok(Inc { server, start })
 }
 
@@ -43,9 +50,12 @@ pub fn take_inc_after(from: &mut Cutter, before: Option<Inc>) -> Result<Inc, Mis
 pub fn take_ballot(from: &mut Cutter) -> Result<Ballot, Misfit>
     ensures ok { IfOk result (λ ballot. Takes next_ballot from.old ballot from.new) }
     ensures misfit { IfErr result (λ e. FaultsAt next_ballot from.old e.at) }
+    ensures err { OnErr result (from.new ≡ from.old) }
 {
-    let round = from.take_u32_in(1, u32::MAX)?;
-    let inc = take_inc(from)?;
+    let mut ahead = from.fork();
+    let round = ahead.take_u32_in(1, u32::MAX)?;
+    let inc = take_inc(&mut ahead)?;
+    *from = ahead;
     Ok(Ballot { round, inc })
 }
 
@@ -54,9 +64,12 @@ pub fn take_ballot(from: &mut Cutter) -> Result<Ballot, Misfit>
 pub fn take_id(from: &mut Cutter) -> Result<ValueId, Misfit>
     ensures ok { IfOk result (λ id. Takes next_id from.old id from.new) }
     ensures misfit { IfErr result (λ e. FaultsAt next_id from.old e.at) }
+    ensures err { OnErr result (from.new ≡ from.old) }
 {
-    let origin = take_inc(from)?;
-    let number = from.take_u64_in(0, u64::MAX)?;
+    let mut ahead = from.fork();
+    let origin = take_inc(&mut ahead)?;
+    let number = ahead.take_u64_in(0, u64::MAX)?;
+    *from = ahead;
     Ok(ValueId { origin, number })
 }
 
@@ -65,10 +78,13 @@ pub fn take_id(from: &mut Cutter) -> Result<ValueId, Misfit>
 pub fn take_gtid(from: &mut Cutter) -> Result<Gtid, Misfit>
     ensures ok { IfOk result (λ gtid. Takes next_gtid from.old gtid from.new) }
     ensures misfit { IfErr result (λ e. FaultsAt next_gtid from.old e.at) }
+    ensures err { OnErr result (from.new ≡ from.old) }
 {
+    let mut ahead = from.fork();
     let mut source = [0u8; 16];
-    source.copy_from_slice(from.take_slice(16)?);
-    let number = from.take_u64_in(1, LAST_GTID_NUMBER)?;
+    source.copy_from_slice(ahead.take_slice(16)?);
+    let number = ahead.take_u64_in(1, LAST_GTID_NUMBER)?;
+    *from = ahead;
     Ok(Gtid { source, number })
 }
 

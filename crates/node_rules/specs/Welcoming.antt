@@ -9,13 +9,9 @@ use Rattle.node_rules.specs.Lists.{incs_eq, others}
 use Rattle.node_rules.specs.Learner.{begin_at}
 use Rattle.node_rules.specs.Node.{Node, Effect, quiet, told_from}
 use Rattle.node_rules.specs.Voting.{promises}
+pub use Rattle.node_rules.specs.declared.seat.Seat.{Seat}
 
 -- ---- making one
-
--- a member as the view shows it
-pub record Seat : Type 0 where
-  pub joiner : Joiner
-  pub state : MemberState
 
 -- what a Welcome tells of the view, which is no matter of the order
 pub record Shown : Type 0 where

@@ -3,7 +3,9 @@
 #![tactic(auto)]
 
 mod event;
+mod seat;
 mod taken;
 
 pub use event::PaxosEvent;
+pub use seat::Seat;
 pub use taken::Taken;

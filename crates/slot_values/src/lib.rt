@@ -4,6 +4,7 @@
 mod kept;
 mod member;
 mod reading;
+mod spelling;
 #[cfg(test)]
 mod tests;
 mod turns;
@@ -12,6 +13,9 @@ mod value;
 
 pub use kept::Kept;
 pub use member::Member;
+pub use spelling::{
+    put_joiner, put_value, put_vote, take_joiner_after, take_value, take_vote_after,
+};
 pub use turns::Turns;
 pub use turns_at::TurnsAt;
 pub use value::{Joiner, Value, Vote, What};

@@ -1,3 +1,5 @@
 pub mod Changes
 pub mod Bodies
 pub mod Parts
+pub mod Faults
+pub mod Kinds

@@ -1,0 +1,17 @@
+-- The hold goes to its place.
+use Rattle.std.proofs.Common.{◌≡◌, not, arith, sym, ◌∙◌, ap}
+use Rattle.std.specs.Prelude.{nat_lt}
+use Rattle.std.proofs.lemmas.List.Sums.{prefix_len-le-length}
+use Rattle.consistency_waits.specs.Holding.{Held, new_hold}
+use Rattle.consistency_waits.proofs.HoldPlaces.{before, hold_inserts}
+use Rattle.consistency_waits.proofs.waits.Waits.hold.Goals as goal
+
+pub insert-requires : goal.insert-requires
+insert-requires c =
+    let at : c.place_of-at.result ≡ before c.args.session c.self.inside.holds.items = c.place_of-at.ensures ∙ ap (λ l. before c.args.session l) c.deref.ensures.value in
+    omega (arith, prefix_len-le-length (λ (h : Held). not (nat_lt c.args.session h.session)) c.self.inside.holds.items, c.self.inside.holds.ok.0)
+
+pub returns-clause-ok : goal.returns-clause-ok
+returns-clause-ok c =
+    let at : c.place_of-at.result ≡ before c.args.session c.self.inside.holds.items = c.place_of-at.ensures ∙ ap (λ l. before c.args.session l) c.deref.ensures.value in
+    rw (← c.self.view_is) (c.in_ok-insert.ensures.items ∙ sym (hold_inserts c.self.inside.holds.items (new_hold c.args.session c.args.conditions c.args.limit) c.place_of-at.result at))

@@ -1,0 +1,3 @@
+pub mod SlotMaps
+pub mod Votes
+pub mod Decided

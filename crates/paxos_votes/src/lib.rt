@@ -1,0 +1,14 @@
+//! The acceptor and the learner of one node: how it promises and votes, and which slots it knows to be decided.
+#![tactic(auto)]
+
+mod acceptor;
+mod copies;
+mod learner;
+mod slot_maps;
+#[cfg(test)]
+mod tests;
+
+pub use acceptor::{Acceptor, Voted};
+pub use copies::{copied_value, copied_vote};
+pub use learner::{KnownSlot, Learner};
+pub use slot_maps::forget_below;

@@ -1,0 +1,5 @@
+pub mod Spelt
+pub mod Letters
+pub mod Posts
+pub mod Passes
+pub mod Opening
