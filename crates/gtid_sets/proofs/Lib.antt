@@ -13,3 +13,4 @@ pub mod SourcePacks
 pub mod UuidTakes
 pub mod TakeLemmas
 pub mod Scanning
+pub mod ReadBack

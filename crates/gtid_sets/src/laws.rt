@@ -1,10 +1,12 @@
 // Laws of the operations: what each set has, and that a set is one list of runs.
-ghost use Rattle.std.specs.Prelude.{◌≡◌, ◌↔◌, ◌&&◌, ◌||◌, not, IsTrue};
+ghost use Rattle.std.specs.Prelude.{◌≡◌, ◌↔◌, ◌&&◌, ◌||◌, not, IsTrue, Ok};
 ghost use Rattle.gr_ids.specs.declared.names.Gtid.{Gtid};
 ghost use Rattle.gr_ids.specs.Names.{gtid_eq};
 ghost use Rattle.gtid_sets.specs.Sets.{Gtids, has, with_gtid, union, meet, minus, subset};
 ghost use Rattle.gtid_sets.specs.Canonical.{IsCanonical, IsUuid, IsNumber};
 ghost use Rattle.gtid_sets.specs.Spelling.{set_bytes, next_set, HasCounts};
+ghost use Rattle.gtid_sets.specs.Text.{set_text};
+ghost use Rattle.gtid_sets.specs.Grammar.{set_of};
 ghost use Rattle.byte_forms.specs.Forms.{IsForm};
 
 /// A set to which a GTID was added has that one and those that it had.
@@ -48,4 +50,10 @@ pub fn one_list_of_runs()
 #[tactic(auto, using(crate::proofs::SourceLemmas::set_form))]
 pub fn bytes_of_sets()
     ensures { IsForm (λ s. IsCanonical s × HasCounts s) set_bytes next_set }
+{}
+
+/// A set's text is read as that set, so each set has a text of its own.
+pub fn texts_read_back()
+    ensures read { (s : Gtids) → IsCanonical s → set_of (set_text s) ≡ Ok s }
+    ensures apart { (s t : Gtids) → IsCanonical s → IsCanonical t → set_text s ≡ set_text t → s ≡ t }
 {}

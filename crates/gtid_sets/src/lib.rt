@@ -14,6 +14,8 @@ mod scanner;
 mod search;
 mod set;
 mod taking;
+#[cfg(test)]
+mod tests;
 mod text;
 mod told;
 mod union;
@@ -22,7 +24,7 @@ mod whole;
 pub use faults::{SetFault, TextFault};
 pub use laws::{
     bytes_of_sets, members_of_added, members_of_meet, members_of_minus, members_of_subset,
-    members_of_union, one_list_of_runs,
+    members_of_union, one_list_of_runs, texts_read_back,
 };
 pub use run::Run;
 pub use set::GtidSet;

@@ -1,6 +1,7 @@
 -- Worked rows, computed: the text of every line of each script.
 use Rattle.std.proofs.Common.{◌≡◌, ℕ, true, false, Option, Some, None, List, [], ◌∷◌, refl}
 use Rattle.std.specs.Prelude.{replicate, codes, ◌+◌}
+use Rattle.std.specs.Fmt.{digits}
 use Rattle.gr_ids.specs.declared.names.Inc.{Inc}
 use Rattle.gr_ids.specs.declared.levels.Level.TheVariants.{Eventual, BeforeOnPrimaryFailover, Before, After, BeforeAndAfter}
 use Rattle.gr_ids.specs.declared.levels.Mode.TheVariants.{Single, Multi}
@@ -98,7 +99,7 @@ forgetting_items_text : full forgetting_items ≡
     codes "10 3.1 took 4 3.1#1 executed aaaaaaaa-aaaa-aaaa-aaaa-aaaaaaaaaaaa:1" ∷
     codes "11 1.1 items 0" ∷
     []
-unfolding number number_of field word begins_number number_in elements next_inc next_gtid next_interval_after next_source_above next_set next_item_after next_kind next_change next_body next_txn next_mode next_part by_index full run apply plays move settle drain step found start call point settle_slots read turn node_step hear hear_prepare hear_accept hear_learn hear_promise hear_accepted propose_one own_value hear_offer campaign hear_alive tick take hear_welcome forget
+unfolding digits number number_of field word begins_number number_in elements next_inc next_gtid next_interval_after next_source_above next_set next_item_after next_kind next_change next_body next_txn next_mode next_part by_index full run apply plays move settle drain step found start call point settle_slots read turn node_step hear hear_prepare hear_accept hear_learn hear_promise hear_accepted propose_one own_value hear_offer campaign hear_alive tick take hear_welcome forget
 forgetting_items_text = refl
 
 -- blocks-of-five
@@ -156,7 +157,7 @@ blocks_of_five_text : full blocks_of_five ≡
     codes "6 3.1 committed aaaaaaaa-aaaa-aaaa-aaaa-aaaaaaaaaaaa:6" ∷
     codes "7 3.1 gtids aaaaaaaa-aaaa-aaaa-aaaa-aaaaaaaaaaaa:1-2:6" ∷
     []
-unfolding number number_of field word begins_number number_in elements next_inc next_gtid next_interval_after next_source_above next_set next_item_after next_kind next_change next_body next_txn next_mode next_part by_index full run apply plays move settle drain step found start call point settle_slots read turn node_step hear hear_prepare hear_accept hear_learn hear_promise hear_accepted propose_one own_value hear_offer campaign hear_alive tick take hear_welcome forget
+unfolding digits number number_of field word begins_number number_in elements next_inc next_gtid next_interval_after next_source_above next_set next_item_after next_kind next_change next_body next_txn next_mode next_part by_index full run apply plays move settle drain step found start call point settle_slots read turn node_step hear hear_prepare hear_accept hear_learn hear_promise hear_accepted propose_one own_value hear_offer campaign hear_alive tick take hear_welcome forget
 blocks_of_five_text = refl
 
 -- conflict-named-by-place
@@ -215,7 +216,7 @@ conflict_named_by_place_text : full conflict_named_by_place ≡
     codes "13 3.1 took 4 3.1#1 txn conflict aaaaaaaa-aaaa-aaaa-aaaa-aaaaaaaaaaaa:2" ∷
     codes "13 3.1 answer 9 conflict aaaaaaaa-aaaa-aaaa-aaaa-aaaaaaaaaaaa:2" ∷
     []
-unfolding number number_of field word begins_number number_in elements next_inc next_gtid next_interval_after next_source_above next_set next_item_after next_kind next_change next_body next_txn next_mode next_part by_index full run apply plays move settle drain step found start call point settle_slots read turn node_step hear hear_prepare hear_accept hear_learn hear_promise hear_accepted propose_one own_value hear_offer campaign hear_alive tick take hear_welcome forget
+unfolding digits number number_of field word begins_number number_in elements next_inc next_gtid next_interval_after next_source_above next_set next_item_after next_kind next_change next_body next_txn next_mode next_part by_index full run apply plays move settle drain step found start call point settle_slots read turn node_step hear hear_prepare hear_accept hear_learn hear_promise hear_accepted propose_one own_value hear_offer campaign hear_alive tick take hear_welcome forget
 conflict_named_by_place_text = refl
 
 -- a conflict names the last writer of the item, not the first
@@ -260,7 +261,7 @@ conflict_with_the_last_writer_text : full conflict_with_the_last_writer ≡
     codes "9 3.1 took 3 3.1#1 txn conflict aaaaaaaa-aaaa-aaaa-aaaa-aaaaaaaaaaaa:2" ∷
     codes "9 3.1 answer 9 conflict aaaaaaaa-aaaa-aaaa-aaaa-aaaaaaaaaaaa:2" ∷
     []
-unfolding number number_of field word begins_number number_in elements next_inc next_gtid next_interval_after next_source_above next_set next_item_after next_kind next_change next_body next_txn next_mode next_part by_index full run apply plays move settle drain step found start call point settle_slots read turn node_step hear hear_prepare hear_accept hear_learn hear_promise hear_accepted propose_one own_value hear_offer campaign hear_alive tick take hear_welcome forget
+unfolding digits number number_of field word begins_number number_in elements next_inc next_gtid next_interval_after next_source_above next_set next_item_after next_kind next_change next_body next_txn next_mode next_part by_index full run apply plays move settle drain step found start call point settle_slots read turn node_step hear hear_prepare hear_accept hear_learn hear_promise hear_accepted propose_one own_value hear_offer campaign hear_alive tick take hear_welcome forget
 conflict_with_the_last_writer_text = refl
 
 -- an item is kept until all members have told its writer
@@ -293,5 +294,5 @@ kept_until_all_have_told_text : full kept_until_all_have_told ≡
     codes "6 1.1 item t a aaaaaaaa-aaaa-aaaa-aaaa-aaaaaaaaaaaa:1" ∷
     codes "6 1.1 items 1" ∷
     []
-unfolding number number_of field word begins_number number_in elements next_inc next_gtid next_interval_after next_source_above next_set next_item_after next_kind next_change next_body next_txn next_mode next_part by_index full run apply plays move settle drain step found start call point settle_slots read turn node_step hear hear_prepare hear_accept hear_learn hear_promise hear_accepted propose_one own_value hear_offer campaign hear_alive tick take hear_welcome forget
+unfolding digits number number_of field word begins_number number_in elements next_inc next_gtid next_interval_after next_source_above next_set next_item_after next_kind next_change next_body next_txn next_mode next_part by_index full run apply plays move settle drain step found start call point settle_slots read turn node_step hear hear_prepare hear_accept hear_learn hear_promise hear_accepted propose_one own_value hear_offer campaign hear_alive tick take hear_welcome forget
 kept_until_all_have_told_text = refl

@@ -1,6 +1,7 @@
 -- Worked rows, computed: the text of every line of each script.
 use Rattle.std.proofs.Common.{◌≡◌, ℕ, true, false, Option, Some, None, List, [], ◌∷◌, refl}
 use Rattle.std.specs.Prelude.{replicate, codes, ◌+◌}
+use Rattle.std.specs.Fmt.{digits}
 use Rattle.gr_ids.specs.declared.names.Inc.{Inc}
 use Rattle.gr_ids.specs.declared.levels.Level.TheVariants.{Eventual, BeforeOnPrimaryFailover, Before, After, BeforeAndAfter}
 use Rattle.gr_ids.specs.declared.levels.Mode.TheVariants.{Single, Multi}
@@ -97,7 +98,7 @@ failover_text : full failover ≡
     codes "9 2.1 committed aaaaaaaa-aaaa-aaaa-aaaa-aaaaaaaaaaaa:2" ∷
     codes "9 2.1 answer 7 begun aaaaaaaa-aaaa-aaaa-aaaa-aaaaaaaaaaaa:1-2" ∷
     []
-unfolding number number_of field word begins_number number_in elements next_inc next_gtid next_interval_after next_source_above next_set next_item_after next_kind next_change next_body next_txn next_mode next_part by_index full run apply plays move settle drain step found start call point settle_slots read turn node_step hear hear_prepare hear_accept hear_learn hear_promise hear_accepted propose_one own_value hear_offer campaign hear_alive tick take hear_welcome forget
+unfolding digits number number_of field word begins_number number_in elements next_inc next_gtid next_interval_after next_source_above next_set next_item_after next_kind next_change next_body next_txn next_mode next_part by_index full run apply plays move settle drain step found start call point settle_slots read turn node_step hear hear_prepare hear_accept hear_learn hear_promise hear_accepted propose_one own_value hear_offer campaign hear_alive tick take hear_welcome forget
 failover_text = refl
 
 -- failover-hold-timeout
@@ -241,7 +242,7 @@ expelled_unaware_text : full expelled_unaware ≡
     codes "18 3.1 answer o4 undecided 3.1#1" ∷
     codes "19 3.1 answer 8 member left" ∷
     []
-unfolding number number_of field word begins_number number_in elements next_inc next_gtid next_interval_after next_source_above next_set next_item_after next_kind next_change next_body next_txn next_mode next_part by_index full run apply plays move settle drain step found start call point settle_slots read turn node_step hear hear_prepare hear_accept hear_learn hear_promise hear_accepted propose_one own_value hear_offer campaign hear_alive tick take hear_welcome forget
+unfolding digits number number_of field word begins_number number_in elements next_inc next_gtid next_interval_after next_source_above next_set next_item_after next_kind next_change next_body next_txn next_mode next_part by_index full run apply plays move settle drain step found start call point settle_slots read turn node_step hear hear_prepare hear_accept hear_learn hear_promise hear_accepted propose_one own_value hear_offer campaign hear_alive tick take hear_welcome forget
 expelled_unaware_text = refl
 
 -- majority-lost
