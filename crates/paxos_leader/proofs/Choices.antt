@@ -1,6 +1,6 @@
 -- What is proposed next, step by step.
-use Rattle.std.proofs.Common.{◌≡◌, ℕ, ◌^◌, Bool, true, false, List, [], ◌∷◌, Option, Some, None, refl, sym, ap, ◌∙◌}
-use Rattle.std.specs.Prelude.{◌&&◌, ◌||◌, ◌==◌, nat_le, is_some, if◌then◌else◌}
+use Rattle.std.proofs.Common.{◌≡◌, ℕ, ◌^◌, Bool, true, false, List, Option, Some, None, refl, sym, ◌∙◌}
+use Rattle.std.specs.Prelude.{◌||◌, ◌==◌, nat_le, if◌then◌else◌}
 use Rattle.gr_ids.specs.declared.names.Inc.{Inc}
 use Rattle.slot_values.specs.declared.value.Value.{Value}
 use Rattle.slot_values.specs.declared.value.Vote.{Vote}

@@ -1,6 +1,6 @@
 -- The offers of a leader: a map in order of arrival, seen as a list of values.
-use Rattle.std.proofs.Common.{◌≡◌, ℕ, Bool, true, false, List, [], ◌∷◌, ◌++◌, Option, Some, None, eqb, refl, sym, ap, ◌∙◌}
-use Rattle.std.specs.Prelude.{map, is_some, ◌||◌, ◌&&◌, cond, nat_le}
+use Rattle.std.proofs.Common.{◌≡◌, ℕ, Bool, true, false, List, [], ◌∷◌, ◌++◌, refl, sym, ap, ◌∙◌}
+use Rattle.std.specs.Prelude.{map, is_some, ◌&&◌, nat_le}
 use Rattle.std.specs.Map.{lookup}
 use Rattle.gr_ids.specs.declared.names.ValueId.{ValueId}
 use Rattle.gr_ids.specs.Names.{id_eq}

@@ -1,13 +1,12 @@
 -- The proposals of a leader: a map by slot, seen as a list kept by slot.
-use Rattle.std.proofs.Common.{◌≡◌, ℕ, ◌<◌, ◌≤◌, Bool, true, false, List, [], ◌∷◌, Option, Some, None, ltb, eqb, refl, sym, ap, ◌∙◌, arith}
-use Rattle.std.specs.Prelude.{map, option_map, is_some, not, ◌&&◌, ◌||◌}
-use Rattle.std.specs.List.{list_any}
+use Rattle.std.proofs.Common.{◌≡◌, ℕ, Bool, true, false, List, [], ◌∷◌, Option, Some, None, ltb, eqb, refl, sym, ap, ◌∙◌}
+use Rattle.std.specs.Prelude.{map, option_map, is_some}
 use Rattle.std.specs.List.Sorted.{IsStrictlySortedBy}
 use Rattle.std.specs.Ordering.{nat_cmp}
 use Rattle.std.specs.declared.cmp.Ordering.TheVariants.{Less}
 use Rattle.std.specs.Map.{lookup, keys_of, set_value}
 use Rattle.std.specs.BTreeMap.{insert_entry, is_at}
-use Rattle.std.proofs.lemmas.Bool.{ltb-true, ltb-false, ne_eqb, eqb-true, eqb-false, eq-eqb}
+use Rattle.std.proofs.lemmas.Bool.{ne_eqb, eqb-true, eqb-false, eq-eqb}
 use Rattle.std.proofs.lemmas.Cmp.{nat_cmp_total}
 use Rattle.std.proofs.lemmas.Map.{lookup-none}
 use Rattle.std.proofs.lemmas.Map.Entries.{none_below_head}
@@ -18,7 +17,7 @@ use Rattle.node_rules.specs.Slots.{at_slot, put_slot, from_slot}
 use Rattle.std.proofs.lemmas.Map.Steps.{set_value_same}
 use Rattle.gr_ids.specs.declared.names.Ballot.{Ballot}
 use Rattle.slot_values.specs.declared.value.Value.{Value}
-use Rattle.node_rules.specs.Leader.{Leader, Promised, Proposal, accepted_by, count_accepted, has_majority}
+use Rattle.node_rules.specs.Leader.{Leader, Promised, Proposal, accepted_by, has_majority}
 use Rattle.paxos_votes.specs.Entries.{entries_from}
 use Rattle.paxos_votes.proofs.SlotMaps.{put_is, at_is, has_is, from_is}
 use Rattle.paxos_leader.specs.Parts.{proposal_of}

@@ -1,10 +1,9 @@
 -- The configurations that are known are those of the log's state without the forgotten ones.
-use Rattle.std.proofs.Common.{◌≡◌, ℕ, zero, suc, ◌+◌, ◌-◌, ◌<◌, ◌≤◌, Bool, true, false, List, [], ◌∷◌, Option, Some, None, drop, ltb, refl, sym, ap, ◌∙◌, arith}
-use Rattle.std.specs.Prelude.{slice_get, nat_lt, nat_le, if◌then◌else◌}
+use Rattle.std.proofs.Common.{◌≡◌, ℕ, zero, suc, ◌+◌, ◌-◌, ◌<◌, ◌≤◌, Bool, true, false, List, [], ◌∷◌, drop, refl, ap, ◌∙◌, arith}
+use Rattle.std.specs.Prelude.{slice_get, nat_lt, nat_le}
 use Rattle.std.proofs.lemmas.Bool.{ltb-true, ltb-false, lt-ltb, le-ltb}
 use Rattle.std.proofs.lemmas.Bool.Decides.{nat_tests}
-use Rattle.gr_ids.specs.declared.names.Inc.{Inc}
-use Rattle.slot_values.specs.Log.{Turns, config_of, forget_configs}
+use Rattle.slot_values.specs.Log.{config_of}
 use Rattle.slot_values.specs.Turns.{Taken, known_config}
 use Rattle.paxos_leader.specs.Parts.{standing}
 

@@ -1,6 +1,6 @@
 -- What a leader proposes next, by the proposing rule.
 -- (Lamport, "Paxos Made Simple", section 2.2 for the value; section 3 for the no-op that fills a gap.)
-use Rattle.std.specs.Prelude.{ℕ, Bool, Option, Some, None, List, option_map, if◌then◌else◌}
+use Rattle.std.specs.Prelude.{ℕ, Bool, Option, Some, None, if◌then◌else◌}
 use Rattle.gr_ids.specs.declared.names.Ballot.{Ballot}
 use Rattle.slot_values.specs.declared.value.Vote.{Vote}
 use Rattle.slot_values.specs.declared.value.Value.{Value}

@@ -1,5 +1,5 @@
 -- An acceptance of a slot that the leader proposed, counted. (Lamport, "Paxos Made Simple", section 2.2, phase 2.)
-use Rattle.std.specs.Prelude.{ℕ, Bool, true, false, not, ◌&&◌, Option, Some, None, if◌then◌else◌}
+use Rattle.std.specs.Prelude.{ℕ, Bool, false, not, ◌&&◌, Option, Some, None, if◌then◌else◌}
 use Rattle.gr_ids.specs.declared.names.Inc.{Inc}
 use Rattle.slot_values.specs.Log.{Turns}
 use Rattle.node_rules.specs.Leader.{Leader, Proposal, accepted_by, count_accepted, has_majority}

@@ -1,11 +1,11 @@
 -- How what a leader keeps is the leader of the definitions.
-use Rattle.std.specs.Prelude.{ℕ, List, map, option_map}
+use Rattle.std.specs.Prelude.{ℕ}
 use Rattle.gr_ids.specs.declared.names.ValueId.{ValueId}
 use Rattle.slot_values.specs.declared.value.What.{What}
 use Rattle.slot_values.specs.declared.value.Value.{Value}
 use Rattle.slot_values.specs.Log.{Turns, forget_configs}
 use Rattle.slot_values.specs.Turns.{Taken}
-use Rattle.node_rules.specs.Leader.{Leader, Promised, Proposal}
+use Rattle.node_rules.specs.Leader.{Promised, Proposal}
 use Rattle.paxos_leader.specs.declared.promise.Promise.{Promise}
 use Rattle.paxos_leader.specs.declared.leader.Proposed.{Proposed}
 

@@ -100,11 +100,7 @@ impl Leader {
     }
 
     /// The first offer is proposed in the slot, and leaves the offers. Linear in the offers and in the value's bytes.
-    pub(crate) fn propose_offer(
-        &mut self,
-        alloc: Global,
-        slot: u64,
-    ) -> Result<Option<u64>, Memory>
+    pub(crate) fn propose_offer(&mut self, alloc: Global, slot: u64) -> Result<Option<u64>, Memory>
         ensures slot { IfOk result (λ slot_taken. slot_taken ≡ option_map (λ c. c.slot) (first_offer slot self.old.offers)) }
         ensures ok { OnOk result (self.new ≡ with_choice self.old (first_offer slot self.old.offers)) }
         ensures err { OnErr result (self.new ≡ self.old) }

@@ -8,9 +8,9 @@ ghost use Rattle.paxos_leader.specs.Choosing.{next_choice, with_choice};
 ghost use Rattle.paxos_leader.specs.Counting.{counted, decides};
 ghost use Rattle.paxos_leader.specs.Parts.{standing};
 
+use crate::counting::{has_majority, has_offer, is_proposed};
 use crate::incs::put_inc;
 use crate::promise::{Promise, has_promise};
-use crate::counting::{has_majority, has_offer, is_proposed};
 use gr_ids::{Ballot, Inc, Memory, Sequence, ValueId};
 use indexmap::IndexMap;
 use paxos_votes::{Learner, forget_below};
@@ -92,12 +92,7 @@ impl Leader {
 
     /// An offer goes last. False, and nothing is done, exactly where its identity is there, or is that of a proposal in an
     /// undecided slot, or its number isn't above the origin's last kept number. Linear in the proposals kept.
-    pub fn offer(
-        &mut self,
-        value: Value,
-        learner: &Learner,
-        turns: &Turns,
-    ) -> Result<bool, Memory>
+    pub fn offer(&mut self, value: Value, learner: &Learner, turns: &Turns) -> Result<bool, Memory>
         ensures answer { IfOk result (λ taken. taken ≡ not (refuses_offer (is_decided learner.now) (last_of turns.now.turns.reading) self.old value)) }
         ensures ok { OnOk result (self.new ≡ take_offer (is_decided learner.now) (last_of turns.now.turns.reading) self.old value) }
         ensures err { OnErr result (self.new ≡ self.old) }

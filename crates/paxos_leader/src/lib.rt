@@ -5,8 +5,12 @@ mod choosing;
 mod counting;
 mod incs;
 mod leader;
+mod missing;
 mod promise;
+#[cfg(test)]
+mod tests;
 
-pub use incs::{has_inc, put_inc};
+pub use incs::{has_inc, put_inc, put_incs};
 pub use leader::{Leader, Proposed};
+pub use missing::Unaccepted;
 pub use promise::Promise;

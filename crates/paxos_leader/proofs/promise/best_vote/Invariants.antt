@@ -1,5 +1,5 @@
 -- The best vote of the promises so far, taken on through the others, is the best of all.
-use Rattle.std.proofs.Common.{◌≡◌, drop, None}
+use Rattle.std.proofs.Common.{◌≡◌, drop}
 use Rattle.std.specs.Prelude.{fold, map, option_map}
 use Rattle.node_rules.specs.Leader.{best, better}
 use Rattle.paxos_leader.specs.Parts.{promised_of}

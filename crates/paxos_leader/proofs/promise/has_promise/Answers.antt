@@ -1,9 +1,7 @@
 -- The same test, through the records of the definitions.
-use Rattle.std.proofs.Common.{◌≡◌, ◌∙◌, rules}
-use Rattle.std.specs.List.{list_any}
+use Rattle.std.proofs.Common.{◌∙◌}
 use Rattle.gr_ids.specs.Names.{inc_eq}
 use Rattle.paxos_leader.specs.Parts.{promised_of}
-use Rattle.node_rules.specs.Leader.{Promised}
 use Rattle.paxos_leader.proofs.Promises.{any_of}
 use Rattle.paxos_leader.proofs.promise.has_promise.Goals as goal
 

@@ -1,9 +1,8 @@
 -- The same test, through the records of the definitions.
-use Rattle.std.proofs.Common.{◌≡◌, ◌∙◌, rules}
+use Rattle.std.proofs.Common.{◌∙◌}
 use Rattle.std.specs.Prelude.{nat_lt}
 use Rattle.std.specs.List.{list_any}
 use Rattle.paxos_leader.specs.Parts.{promised_of}
-use Rattle.node_rules.specs.Leader.{Promised}
 use Rattle.paxos_leader.proofs.Promises.{any_of}
 use Rattle.paxos_leader.proofs.promise.is_reported_above.Goals as goal
 

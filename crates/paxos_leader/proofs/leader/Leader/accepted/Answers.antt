@@ -1,12 +1,9 @@
 -- The sender is put among those who accepted the proposal.
-use Rattle.std.proofs.Common.{◌≡◌, ℕ, true, false, Some, None, List, Option, Result, Ok, Err, OnErr, sym, ap, ◌∙◌}
+use Rattle.std.proofs.Common.{◌≡◌, false, Some, List, Result, Ok, Err, OnErr, sym, ap, ◌∙◌}
 use Rattle.std.specs.Prelude.{map}
-use Rattle.std.specs.Map.{set_value}
-use Rattle.std.specs.Ordering.{nat_cmp}
-use Rattle.std.specs.BTreeMap.{is_at}
 use Rattle.gr_ids.specs.declared.names.Inc.{Inc}
 use Rattle.gr_ids.specs.Names.{has_inc}
-use Rattle.slot_values.specs.Log.{majority, with_inc}
+use Rattle.slot_values.specs.Log.{majority}
 use Rattle.node_rules.specs.Known.{config_here}
 use Rattle.node_rules.specs.Learner.{is_decided}
 use Rattle.node_rules.specs.Leader.{Leader, Proposal, accepted_by}
@@ -41,15 +38,15 @@ returns-in_err-put_inc-clause-err c =
     let there : found c.self.inside.proposals.entries c.args.slot ≡ Some c.in-Some.proposed.now = sym c.in-Some.ensures.value in
     let same : proposal_of (c.args.slot, w) ≡ proposal_of (c.args.slot, c.in-Some.proposed.now) = ap (λ (is : List Inc). let p : Proposal = record { slot = c.args.slot; value = c.in-Some.proposed.now.value; accepted = is } in p) c.in_err-put_inc.ensures.err in
     let stay : map proposal_of (c.get_mut.follows.lender w).entries ≡ map proposal_of c.self.inside.proposals.entries =
-        ap (map proposal_of) (c.get_mut.follows.holds w).0 ∙ set_is es c.args.slot v w c.in-Some.ensures.ordered there ∙ ap (with_one es) same ∙ put_again es c.args.slot v c.in-Some.ensures.ordered there in
+    ap (map proposal_of) (c.get_mut.follows.holds w).0 ∙ set_is es c.args.slot v w c.in-Some.ensures.ordered there ∙ ap (with_one es) same ∙ put_again es c.args.slot v c.in-Some.ensures.ordered there in
     on_err c.from_residual.result _ (rw (← c.self.view_is) (ap (λ (ps : List Proposal). let l : Leader = record { ballot = c.self.inside.ballot; promises = map promised_of c.self.inside.promises.items; proposals = ps; offers = map offer_of c.self.inside.offers.entries } in l) stay))
 
 pub returns-clause-answer : goal.returns-clause-answer
 returns-clause-answer c =
     let open_here : is_decided c.args.learner.now c.args.slot ≡ false = sym c.is_decided.ensures ∙ c.if-is_decided.false in
     rw (← c.self.view_is) (c.has_majority.ensures
-        ∙ ap (λ (is : List Inc). majority (config_here (Some (standing c.args.turns.now)) c.args.slot) (has_inc is)) (c.deref.ensures.value ∙ c.in_ok-put_inc.ensures.ok)
-        ∙ sym (decides_one (is_decided c.args.learner.now) (Some (standing c.args.turns.now)) c.self.inside.proposals.entries c.args.inc c.args.slot c.in-Some.proposed.now open_here c.in-Some.ensures.value))
+    ∙ ap (λ (is : List Inc). majority (config_here (Some (standing c.args.turns.now)) c.args.slot) (has_inc is)) (c.deref.ensures.value ∙ c.in_ok-put_inc.ensures.ok)
+    ∙ sym (decides_one (is_decided c.args.learner.now) (Some (standing c.args.turns.now)) c.self.inside.proposals.entries c.args.inc c.args.slot c.in-Some.proposed.now open_here c.in-Some.ensures.value))
 
 pub returns-clause-ok : goal.returns-clause-ok
 returns-clause-ok c =
@@ -60,6 +57,6 @@ returns-clause-ok c =
     let there : found c.self.inside.proposals.entries c.args.slot ≡ Some c.in-Some.proposed.now = sym c.in-Some.ensures.value in
     let same : proposal_of (c.args.slot, w) ≡ accepted_by (proposal_of (c.args.slot, c.in-Some.proposed.now)) c.args.inc = ap (λ (is : List Inc). let p : Proposal = record { slot = c.args.slot; value = c.in-Some.proposed.now.value; accepted = is } in p) c.in_ok-put_inc.ensures.ok in
     let put : map proposal_of (c.get_mut.follows.lender w).entries ≡ with_one c.self.inside.proposals.entries (accepted_by (proposal_of (c.args.slot, c.in-Some.proposed.now)) c.args.inc) =
-        ap (map proposal_of) (c.get_mut.follows.holds w).0 ∙ set_is es c.args.slot v w c.in-Some.ensures.ordered there ∙ ap (with_one es) same in
+    ap (map proposal_of) (c.get_mut.follows.holds w).0 ∙ set_is es c.args.slot v w c.in-Some.ensures.ordered there ∙ ap (with_one es) same in
     rw (← c.self.view_is) (ap (λ (ps : List Proposal). let l : Leader = record { ballot = c.self.inside.ballot; promises = map promised_of c.self.inside.promises.items; proposals = ps; offers = map offer_of c.self.inside.offers.entries } in l) put
-        ∙ sym (counts_one c.self.inside.ballot (map promised_of c.self.inside.promises.items) es (map offer_of c.self.inside.offers.entries) (is_decided c.args.learner.now) c.args.inc c.args.slot v open_here c.in-Some.ensures.value))
+    ∙ sym (counts_one c.self.inside.ballot (map promised_of c.self.inside.promises.items) es (map offer_of c.self.inside.offers.entries) (is_decided c.args.learner.now) c.args.inc c.args.slot v open_here c.in-Some.ensures.value))

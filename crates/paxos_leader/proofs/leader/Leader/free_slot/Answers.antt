@@ -1,5 +1,5 @@
 -- A slot that isn't free is passed.
-use Rattle.std.proofs.Common.{◌≡◌, ℕ, suc, ◌+◌, ◌-◌, Bool, true, false, Option, Some, None, refl, sym, ap, ◌∙◌, arith}
+use Rattle.std.proofs.Common.{◌≡◌, ℕ, suc, ◌+◌, ◌-◌, Bool, true, false, Some, refl, sym, ap, ◌∙◌, arith}
 use Rattle.std.specs.Prelude.{not, is_some, ◌||◌}
 use Rattle.node_rules.specs.Leader.{Leader, free_slot, proposal_at}
 use Rattle.node_rules.specs.Learner.{is_decided}

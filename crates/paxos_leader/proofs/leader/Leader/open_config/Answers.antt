@@ -1,12 +1,11 @@
 -- The configuration is the one that is known.
-use Rattle.std.proofs.Common.{◌≡◌, ◌≤◌, ◌^◌, true, false, Option, Some, None, List, sym, ◌∙◌, arith}
+use Rattle.std.proofs.Common.{◌≡◌, ◌^◌, true, Some, sym, ◌∙◌, arith}
 use Rattle.std.specs.Prelude.{nat_le}
 use Rattle.std.proofs.lemmas.Bool.Decides.{nat_tests}
-use Rattle.gr_ids.specs.declared.names.Inc.{Inc}
 use Rattle.slot_values.specs.Log.{config_of}
 use Rattle.paxos_leader.specs.Parts.{standing}
 use Rattle.paxos_leader.proofs.Standing.{standing_config}
-use Rattle.paxos_leader.proofs.Choices.{opens, shut_few, shut_late, shut_unknown}
+use Rattle.paxos_leader.proofs.Choices.{opens, shut_few}
 use Rattle.paxos_leader.proofs.leader.Leader.open_config.Goals as goal
 
 pub returns-then-is_promised_by : goal.returns-then-is_promised_by

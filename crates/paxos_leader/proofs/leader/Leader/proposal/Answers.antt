@@ -1,8 +1,7 @@
 -- The value is that of the slot's proposal.
-use Rattle.std.proofs.Common.{◌≡◌, Option, sym, ap, ◌∙◌}
+use Rattle.std.proofs.Common.{Option, sym, ap, ◌∙◌}
 use Rattle.std.specs.Prelude.{option_map}
 use Rattle.node_rules.specs.Leader.{Proposal}
-use Rattle.slot_values.specs.declared.value.Value.{Value}
 use Rattle.paxos_leader.specs.declared.leader.Proposed.{Proposed}
 use Rattle.paxos_leader.proofs.Proposals.{at_one, proposal_is}
 use Rattle.paxos_leader.proofs.leader.Leader.proposal.Goals as goal
