@@ -10,13 +10,22 @@ use std::alloc::Global;
 pub fn copied_value(alloc: Global, value: &Value) -> Result<Value, Memory>
     ensures { IfOk result (λ copy. copy ≡ value.now) }
 {
-    let what = match &value.what {
+    Ok(Value {
+        id: value.id,
+        what: copied_what(alloc, &value.what)?,
+    })
+}
+
+/// A copy of what a value says. Linear in its bytes.
+pub fn copied_what(alloc: Global, what: &What) -> Result<What, Memory>
+    ensures { IfOk result (λ copy. copy ≡ what.now) }
+{
+    Ok(match what {
         What::Noop => What::Noop,
         What::Add(joiner) => What::Add(*joiner),
         What::Remove(inc) => What::Remove(*inc),
         What::Body(bytes) => What::Body(bytes.try_copy(alloc)?),
-    };
-    Ok(Value { id: value.id, what })
+    })
 }
 
 /// A copy of the vote. Linear in the bytes of its value.

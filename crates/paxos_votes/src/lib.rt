@@ -9,6 +9,6 @@ mod slot_maps;
 mod tests;
 
 pub use acceptor::{Acceptor, Voted};
-pub use copies::{copied_value, copied_vote};
+pub use copies::{copied_value, copied_vote, copied_what};
 pub use learner::{KnownSlot, Learner};
 pub use slot_maps::forget_below;

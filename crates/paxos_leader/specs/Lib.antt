@@ -1,0 +1,4 @@
+pub mod Parts
+pub mod Counting
+pub mod Choosing
+pub mod Missing
