@@ -193,8 +193,18 @@ fn letters_of_each_sender_come_in_order(rt: HostRuntime) -> Result<(), Fail> {
     let second = last_sender(&rt, &hub, &mut sends, SECOND);
     let first = last_sender(&rt, &hub, &mut sends, FIRST);
     let take = last_taker(&rt, &hub, &mut takes);
-    let (first, second, take, ordered) = exchange(&rt, rt.alloc(), &hub, first, second, take);
+    let (mut first, second, mut take, ordered) = exchange(
+        &rt,
+        rt.alloc(),
+        &hub,
+        first,
+        second,
+        take,
+    );
     assert!(rt; ordered);
+    hub.tell(&mut first, &mut take);
+    assert!(rt; hub.take(&rt, &mut take).is_none());
+    assert_eq!(rt; hub.members(), [FIRST, SECOND, THIRD].as_slice());
     sends.push(first)?;
     sends.push(second)?;
     sends.push(third)?;
