@@ -1,5 +1,5 @@
 -- Each kind of step keeps the rule of a mailbox.
-use Rattle.std.proofs.Common.{◌≡◌, ◌≢◌, ℕ, zero, suc, ◌+◌, ◌<◌, ◌≤◌, ◌⊎◌, ⊎_elim, Bool, true, false, List, [], ◌∷◌, ◌++◌, length, set, sym, refl, ap, ◌∙◌, subst, arith, append_assoc, append-nil, Option, Some, None}
+use Rattle.std.proofs.Common.{◌≡◌, ◌≢◌, ℕ, zero, suc, ◌<◌, ⊎_elim, Bool, true, false, List, [], ◌∷◌, ◌++◌, length, set, sym, refl, ap, ◌∙◌, subst, append_assoc, append-nil, Option, Some, None}
 use Rattle.std.specs.List.{All}
 use Rattle.std.proofs.lemmas.List.Elements.{All-nil, All-cons, All-head, All-tail, All-append, All-push, All-weaker}
 use mathlib.Core.Bool.{cond}
@@ -86,14 +86,14 @@ sends n pass v x is from to high items views _ h at =
     let seat : h.1 x.from ≡ Some pass = ap h.1 from ∙ mine.0 in
     let same : inc_eq v.name x.from ≡ true = subst (λ (p : Inc). inc_eq v.name p ≡ true) (sym from) (eq_self v.name) in
     let rise : (p : Inc) → rises 0 (of p (all ++ x ∷ [])) ≡ true = λ p. ⊎_elim
-        (λ (e : inc_eq p x.from ≡ true). let name : p ≡ v.name = same_inc p x.from e ∙ from in let put : of p all ≡ v.letters = ap (λ q. of q all) name ∙ sym mine.2 in
-        subst (λ (l : List Letter). rises 0 l ≡ true) (sym (of_next p all x e)) (rises_next 0 (of p all) x (h.5 p) (subst (λ (l : List Letter). last_index 0 l < x.index) (sym put) high)))
-        (λ (e : inc_eq p x.from ≡ false). subst (λ (l : List Letter). rises 0 l ≡ true) (sym (of_same p all x e)) (h.5 p))
-        (either_way (inc_eq p x.from)) in
+    (λ (e : inc_eq p x.from ≡ true). let name : p ≡ v.name = same_inc p x.from e ∙ from in let put : of p all ≡ v.letters = ap (λ q. of q all) name ∙ sym mine.2 in
+    subst (λ (l : List Letter). rises 0 l ≡ true) (sym (of_next p all x e)) (rises_next 0 (of p all) x (h.5 p) (subst (λ (l : List Letter). last_index 0 l < x.index) (sym put) high)))
+    (λ (e : inc_eq p x.from ≡ false). subst (λ (l : List Letter). rises 0 l ≡ true) (sym (of_same p all x e)) (h.5 p))
+    (either_way (inc_eq p x.from)) in
     let knows : Knows h.0 h.1 h.2 h.3 (all ++ x ∷ []) pass w Sender = (mine.0, mine.1, ap (λ l. l ++ x ∷ []) mine.2 ∙ sym (of_next v.name all x same)) in
     let each : (j : ℕ) (u : View) → get_elem? (set views pass w) j ≡ some u → Fits h.0 h.1 h.2 h.3 (all ++ x ∷ []) j u = each_set (Fits h.0 h.1 h.2 h.3 (all ++ x ∷ [])) views pass w
-        (true_more all (x ∷ []) v.told (h.6 pass v at).0, subst (λ (r : Role). Knows h.0 h.1 h.2 h.3 (all ++ x ∷ []) pass w r) (sym is) knows)
-        (λ j u apart e. (true_more all (x ∷ []) u.told (h.6 j u e).0, knows_more h.0 h.1 h.2 h.3 all pass x seat j u u.role apart (h.6 j u e).1)) in (
+    (true_more all (x ∷ []) v.told (h.6 pass v at).0, subst (λ (r : Role). Knows h.0 h.1 h.2 h.3 (all ++ x ∷ []) pass w r) (sym is) knows)
+    (λ j u apart e. (true_more all (x ∷ []) u.told (h.6 j u e).0, knows_more h.0 h.1 h.2 h.3 all pass x seat j u u.role apart (h.6 j u e).1)) in (
       w,
       (
         h.0,
@@ -113,8 +113,8 @@ takes pass v is x items views h at =
     let same : got ++ items ≡ all = append_assoc h.3 (x ∷ []) items in
     let knows : Knows h.0 h.1 h.2 got all pass w Taker = (mine.0, mine.1, ap (λ l. l ++ x ∷ []) mine.2, mine.3) in
     let each : (j : ℕ) (u : View) → get_elem? (set views pass w) j ≡ some u → Fits h.0 h.1 h.2 got all j u = each_set (Fits h.0 h.1 h.2 got all) views pass w
-        ((h.6 pass v at).0, subst (λ (r : Role). Knows h.0 h.1 h.2 got all pass w r) (sym is) knows)
-        (λ j u apart e. ((h.6 j u e).0, knows_taken h.0 h.1 h.2 h.3 got all pass mine.0 j u u.role apart (h.6 j u e).1)) in
+    ((h.6 pass v at).0, subst (λ (r : Role). Knows h.0 h.1 h.2 got all pass w r) (sym is) knows)
+    (λ j u apart e. ((h.6 j u e).0, knows_taken h.0 h.1 h.2 h.3 got all pass mine.0 j u u.role apart (h.6 j u e).1)) in
     let made : has_inc v.senders x.from ≡ true = ⊎_elim (λ (e : has_inc v.senders x.from ≡ true). e) (λ (e : has_inc v.senders x.from ≡ false). absurd (was_sent h.3 items x (mine.3 x.from e).1)) (either_way (has_inc v.senders x.from)) in
     let rise : (p : Inc) → rises 0 (of p (got ++ items)) ≡ true = λ p. subst (λ (l : List Letter). rises 0 (of p l) ≡ true) (sym same) (h.5 p) in (
       w,
@@ -145,7 +145,7 @@ pub owns : (pass : ℕ) (v : View) → v.role ≡ Sender → Learns Posted pass 
 owns pass v is items views h at =
     let all : List Letter = h.3 ++ items in let mine = own h.0 h.1 h.2 h.3 all pass v Sender is (h.6 pass v at) in
     All-weaker (λ (t : Told). IsPrefix t.letters (of t.name all)) (λ (t : Told). t.name ≡ v.name → IsPrefix t.letters v.letters)
-        (λ t p e. subst (λ (l : List Letter). IsPrefix t.letters l) (ap (λ q. of q all) e ∙ sym mine.2) p) v.told (h.6 pass v at).0
+    (λ t p e. subst (λ (l : List Letter). IsPrefix t.letters l) (ap (λ q. of q all) e ∙ sym mine.2) p) v.told (h.6 pass v at).0
 
 pub names : (p : Inc) (pass : ℕ) (v : View) → v.role ≡ Taker → v.senders ≡ [] → Forks Posted pass v (owning p v) (note [])
 names p pass v is new items views h at =
@@ -154,7 +154,7 @@ names p pass v is new items views h at =
     let empty : all ≡ [] = none_sent all (λ q. (mine.3 q (low q)).1) in
     let knows : Knows h.0 h.1 p h.3 all pass w Taker = (mine.0, refl, mine.2, mine.3) in
     let others : (j : ℕ) (u : View) (role : Role) → j ≢ pass → Knows h.0 h.1 h.2 h.3 all j u role → Knows h.0 h.1 p h.3 all j u role = λ j u role. elim role as (λ r. j ≢ pass → Knows h.0 h.1 h.2 h.3 all j u r → Knows h.0 h.1 p h.3 all j u r) [
-      Taker ↦ λ apart k. absurd (apart (k.0 ∙ sym mine.0))
+      | Taker ↦ λ apart k. absurd (apart (k.0 ∙ sym mine.0))
       | Sender ↦ λ apart k. absurd (none_apart (h.1 u.name) j (mine.3 u.name (low u.name)).0 k.0)
       | Note ↦ λ apart k. tt
     ] in (
@@ -184,7 +184,7 @@ makes p pass v is low items views h at =
       λ q not. let k = not_among v.senders p q not in let rest = mine.3 q k.0 in (old q (λ e. true_not_false (inc_eq p q) (subst (λ (i : Inc). inc_eq p i ≡ true) e (eq_self p)) k.1) ∙ rest.0, rest.1),
     ) in
     let others : (j : ℕ) (u : View) (role : Role) → j ≢ pass → Knows h.0 h.1 h.2 h.3 all j u role → Knows h.0 seat h.2 h.3 all j u role = λ j u role. elim role as (λ r. j ≢ pass → Knows h.0 h.1 h.2 h.3 all j u r → Knows h.0 seat h.2 h.3 all j u r) [
-      Taker ↦ λ apart k. absurd (apart (k.0 ∙ sym mine.0))
+      | Taker ↦ λ apart k. absurd (apart (k.0 ∙ sym mine.0))
       | Sender ↦ λ apart k. (old u.name (λ e. none_apart (h.1 u.name) j (ap h.1 (sym e) ∙ (mine.3 p low).0) k.0) ∙ k.0, k.1, k.2)
       | Note ↦ λ apart k. tt
     ] in (
@@ -218,13 +218,13 @@ pub tells_of : (p : Inc) (pass : ℕ) (v : View) → v.role ≡ Taker → Forks 
 tells_of p pass v is items views h at =
     let mine = own h.0 h.1 h.2 h.3 (h.3 ++ items) pass v Taker is (h.6 pass v at) in
     writes items views h pass v at (record { name = p; letters = of p v.letters })
-        (subst (λ (l : List Letter). IsPrefix (of p l) (of p (h.3 ++ items))) (sym mine.2) (of p items, sym (of-append p h.3 items)))
+    (subst (λ (l : List Letter). IsPrefix (of p l) (of p (h.3 ++ items))) (sym mine.2) (of p items, sym (of-append p h.3 items)))
 
 pub tells_own : (pass : ℕ) (v : View) → v.role ≡ Sender → Forks Posted pass v v (told_own v)
 tells_own pass v is items views h at =
     let mine = own h.0 h.1 h.2 h.3 (h.3 ++ items) pass v Sender is (h.6 pass v at) in
     writes items views h pass v at (record { name = v.name; letters = v.letters })
-        (subst (λ (l : List Letter). IsPrefix l (of v.name (h.3 ++ items))) (sym mine.2) (prefix_self (of v.name (h.3 ++ items))))
+    (subst (λ (l : List Letter). IsPrefix l (of v.name (h.3 ++ items))) (sym mine.2) (prefix_self (of v.name (h.3 ++ items))))
 
 pub hears_more : (pass : ℕ) (v : View) (other : ℕ) (w : View) → Merges Posted pass v other w (hears v w) (note [])
 hears_more pass v other w items views h at apart at' =
@@ -232,5 +232,5 @@ hears_more pass v other w items views h at apart at' =
     let was : get_elem? views other ≡ some w = ⊎_elim (λ (x : (other ≡ pass) × (both ≡ w)). absurd (apart x.0)) (λ (x : (other ≢ pass) × (get_elem? views other ≡ some w)). x.1) (at_set views pass other both w at') in
     let told : TrueOf all both.told = All-append (λ (t : Told). IsPrefix t.letters (of t.name all)) v.told w.told (h.6 pass v at).0 (h.6 other w was).0 in
     let now : (j : ℕ) (u : View) → get_elem? (set views pass both) j ≡ some u → Fits h.0 h.1 h.2 h.3 all j u = each_set (Fits h.0 h.1 h.2 h.3 all) views pass both
-        (told, knows_told h.0 h.1 h.2 h.3 all pass v w v.role (h.6 pass v at).1) (λ j u ne e. h.6 j u e) in
+    (told, knows_told h.0 h.1 h.2 h.3 all pass v w v.role (h.6 pass v at).1) (λ j u ne e. h.6 j u e) in
     (h.0, h.1, h.2, h.3, h.4, h.5, each_set (Fits h.0 h.1 h.2 h.3 all) (set views pass both) other (note []) (All-nil _, tt) (λ j u ne e. now j u e))

@@ -1,6 +1,5 @@
 -- Lists under a map, where one element is written.
-use Rattle.std.proofs.Common.{◌≡◌, ℕ, zero, suc, ◌<◌, List, [], ◌∷◌, length, set, get_or, map, sym, refl, ap, ◌∙◌, arith, Option, Some, slice_get}
-use Rattle.std.proofs.lemmas.Option.{slice_get-map}
+use Rattle.std.proofs.Common.{◌≡◌, ℕ, zero, suc, ◌<◌, List, [], ◌∷◌, length, set, get_or, map, sym, refl, ap, ◌∙◌, arith, Some, slice_get}
 
 module _ {A B : Type 0} (f : A → B) where
   -- a write that f does not see

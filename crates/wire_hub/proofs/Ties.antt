@@ -1,5 +1,5 @@
 -- A port of a pass, and the mailbox at its place.
-use Rattle.std.proofs.Common.{◌≡◌, ℕ, ◌<◌, ◌≤◌, List, [], ◌∷◌, ◌++◌, length, set, get_or, map, sym, refl, ap, ◌∙◌, subst, arith, Option, Some, slice_get}
+use Rattle.std.proofs.Common.{◌≡◌, ℕ, ◌<◌, ◌≤◌, List, [], ◌∷◌, ◌++◌, length, set, get_or, map, sym, ap, ◌∙◌, subst, arith, Some, slice_get}
 use Rattle.std.specs.List.{All}
 use Rattle.std.specs.declared.alloc.Global.{Global}
 use Rattle.std.proofs.lemmas.List.{map-set}
@@ -82,10 +82,10 @@ module _ (hub : Hub) (pass : SendPass) (x : Letter) (k : ℕ) (p : Port) (b : Ma
       let name : q.seat.me.view.client.name ≡ pass.name = ap (λ (v : View). v.name) put ∙ (port_own pass k p within is).0 in
       let last : last_index 0 q.seat.me.view.client.letters ≡ x.index = ap (λ (v : View). last_index 0 v.letters) put ∙ last-next 0 p.seat.me.view.client.letters x in
       All-set (λ (r : Port). (r.seat.me.view.client.name ≡ pass.name) × (last_index 0 r.seat.me.view.client.letters ≤ x.index)) pass.ports.items k q
-          (name, omega (arith, last))
-          (All-weaker (λ (r : Port). (r.seat.me.view.client.name ≡ pass.name) × (last_index 0 r.seat.me.view.client.letters ≤ pass.last))
-          (λ (r : Port). (r.seat.me.view.client.name ≡ pass.name) × (last_index 0 r.seat.me.view.client.letters ≤ x.index))
-          (λ r h. (h.0, omega (arith, h.1, low))) pass.ports.items pass.own)
+      (name, omega (arith, last))
+      (All-weaker (λ (r : Port). (r.seat.me.view.client.name ≡ pass.name) × (last_index 0 r.seat.me.view.client.letters ≤ pass.last))
+      (λ (r : Port). (r.seat.me.view.client.name ≡ pass.name) × (last_index 0 r.seat.me.view.client.letters ≤ x.index))
+      (λ r h. (h.0, omega (arith, h.1, low))) pass.ports.items pass.own)
 
   pub post_sent : (q : Port) → q.seat.me.view.client ≡ with_letter p.seat.me.view.client x → map letters_of (set pass.ports.items k q) ≡ set (sent_to pass) k (sent_at pass k ++ x ∷ [])
   post_sent q put = map-set letters_of pass.ports.items k q ∙ ap (λ w. set (sent_to pass) k w) (ap (λ (v : View). v.letters) put ∙ ap (λ w. w ++ x ∷ []) (sym (port_sent pass k p within is)))

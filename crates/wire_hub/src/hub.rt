@@ -32,12 +32,7 @@ impl Hub {
 
     /// Puts the letter into the mailbox of `letter.to`, behind all others there. It comes back where memory is refused (or, which no
     /// run reaches, after nearly 2^62 letters to one mailbox); then nothing was sent. Linear in the members.
-    pub fn send<R: Wait>(
-        &self,
-        rt: &R,
-        pass: &mut SendPass,
-        letter: Letter,
-    ) -> Result<(), Letter>
+    pub fn send<R: Wait>(&self, rt: &R, pass: &mut SendPass, letter: Letter) -> Result<(), Letter>
         requires own { IsSendPassOf self.now pass.old }
         requires from { letter.from ≡ pass.old.name }
         requires to { has_inc self.now.members.items letter.to ≡ true }

@@ -12,6 +12,9 @@ mod mailbox;
 mod opening;
 mod passes;
 mod plays;
+#[cfg(test)]
+mod tests;
 mod view;
 
 pub use letter::Letter;
+pub use passes::{Hub, SendPass, TakePass};

@@ -46,11 +46,7 @@ fn name_told<J: Named>(line: &Line, seat: &mut Seat, name: Inc) -> Seat
 
 impl Mailbox {
     // An empty mailbox, and the pass of its owner, who is the member at `at`.
-    pub(crate) fn open(
-        alloc: Global,
-        owner: Inc,
-        at: usize,
-    ) -> Result<(Mailbox, TakePass), Memory>
+    pub(crate) fn open(alloc: Global, owner: Inc, at: usize) -> Result<(Mailbox, TakePass), Memory>
         ensures { IfOk result (λ r. IsSegPassOf r.0.line r.1.seat × (r.1.at ≡ at) × (r.1.seat.me.view.client ≡ taker owner [] [] [])) }
     {
         let (line, mut seat) = Line::with_rule(alloc)?;
@@ -69,12 +65,7 @@ impl Mailbox {
     }
 
     // Puts a letter behind all others.
-    pub(crate) fn put<R: Wait>(
-        &self,
-        rt: &R,
-        port: &mut Port,
-        letter: Letter,
-    ) -> Result<(), Letter>
+    pub(crate) fn put<R: Wait>(&self, rt: &R, port: &mut Port, letter: Letter) -> Result<(), Letter>
         requires own { IsSegPassOf self.now.line port.old.seat }
         requires names { (letter.from ≡ port.old.seat.me.view.client.name) × (letter.to ≡ port.old.seat.me.view.client.owner) }
         requires index { last_index 0 port.old.seat.me.view.client.letters < letter.index }
@@ -104,13 +95,7 @@ impl Mailbox {
     }
 
     // The sender is told of what was taken of its letters, and compares: it begins what it has sent here.
-    pub(crate) fn compare<R: Wait>(
-        &self,
-        rt: &R,
-        port: &mut Port,
-        take: &mut TakePass,
-        name: Inc,
-    )
+    pub(crate) fn compare<R: Wait>(&self, rt: &R, port: &mut Port, take: &mut TakePass, name: Inc)
         requires own { IsSegPassOf self.now.line port.old.seat × IsSegPassOf self.now.line take.old.seat }
         requires name { port.old.seat.me.view.client.name ≡ name }
         ensures sender { IsSegPassOf self.now.line port.new.seat × (port.new.seat.me.view.client ≡ hears port.old.seat.me.view.client (told_of name take.old.seat.me.view.client)) }

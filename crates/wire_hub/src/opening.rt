@@ -11,10 +11,7 @@ use gr_ids::{Inc, Memory};
 use std::alloc::Global;
 
 // A mailbox for each member, and the pass of its taker.
-fn open_all(
-    alloc: Global,
-    members: &[Inc],
-) -> Result<(Vec<Mailbox>, Vec<TakePass>), Memory>
+fn open_all(alloc: Global, members: &[Inc]) -> Result<(Vec<Mailbox>, Vec<TakePass>), Memory>
     ensures queues { IfOk result (λ r. map take_queue r.1.items ≡ map box_queue r.0.items) }
     ensures takes { IfOk result (λ r. (map take_view r.1.items ≡ map (λ m. taker m [] [] []) members.now) × AreInOrder r.1.items) }
 {

@@ -1,4 +1,4 @@
-use Rattle.std.proofs.Common.{◌≡◌, ◌<◌, ◌∷◌, [], ◌++◌, length, map, sym, ap, ◌∙◌, arith}
+use Rattle.std.proofs.Common.{◌<◌, length, map, ap, ◌∙◌, arith}
 use Rattle.crossbeam_queue.specs.SegTies.{SegId}
 use Rattle.std.specs.declared.alloc.Global.{Global}
 use Rattle.wire_hub.specs.Passes.{queue_of}

@@ -1,4 +1,4 @@
-use Rattle.std.proofs.Common.{◌≡◌, ◌++◌, map, take, drop, length}
+use Rattle.std.proofs.Common.{◌≡◌, ◌++◌, map, take, drop}
 use Rattle.wire_hub.specs.Posts.{making, newcomer}
 use Rattle.wire_hub.specs.Passes.{queue_of}
 use Rattle.wire_hub.specs.Opening.{box_queue, take_view, take_tie, port_view}

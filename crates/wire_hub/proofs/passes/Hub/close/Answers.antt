@@ -1,4 +1,4 @@
-use Rattle.std.proofs.Common.{◌≡◌, ◌<◌, length, ◌∙◌, sym, arith}
+use Rattle.std.proofs.Common.{◌<◌, length, ◌∙◌, sym, arith}
 use Rattle.std.specs.List.{All}
 use Rattle.wire_hub.specs.Passes.{AreSent, IsTakePassOf}
 use Rattle.wire_hub.proofs.Openings.{all_at}

@@ -1,6 +1,6 @@
 use Rattle.std.proofs.Common.{◌≡◌, map, take, drop}
 use Rattle.std.specs.List.{All}
-use Rattle.wire_hub.specs.Passes.{IsSendPassOf, IsTakePassOf, AreSent, what_of}
+use Rattle.wire_hub.specs.Passes.{IsSendPassOf, AreSent, what_of}
 use Rattle.wire_hub.proofs.passes.Hub.close.Given as goal
 
 abbrev pub invariant-loop-place : goal.invariant-loop-place

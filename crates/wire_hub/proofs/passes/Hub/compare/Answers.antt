@@ -1,4 +1,4 @@
-use Rattle.std.proofs.Common.{◌≡◌, ◌<◌, length, slice_get, sym, refl, ap, ◌∙◌, subst, List}
+use Rattle.std.proofs.Common.{slice_get, sym, refl, ap, ◌∙◌, subst, List}
 use mathlib.Core.List.{IsPrefix}
 use Rattle.wire_hub.specs.declared.letter.Letter.{Letter}
 use Rattle.wire_hub.specs.declared.passes.Mailbox.{Mailbox}

@@ -1,4 +1,4 @@
-use Rattle.std.proofs.Common.{◌≡◌, ◌<◌, length, ◌∙◌, sym, ap, arith}
+use Rattle.std.proofs.Common.{◌<◌, length, ◌∙◌, arith}
 use Rattle.std.proofs.lemmas.List.Elements.{All-set}
 use Rattle.wire_hub.specs.Passes.{IsSendPassOf, what_of, AreSent}
 use Rattle.wire_hub.proofs.Maps.{map_kept}

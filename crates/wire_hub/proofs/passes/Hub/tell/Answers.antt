@@ -1,4 +1,4 @@
-use Rattle.std.proofs.Common.{◌≡◌, ◌<◌, length, slice_get, sym, refl, ap, ◌∙◌, ◌∷◌, [], ◌++◌}
+use Rattle.std.proofs.Common.{◌<◌, length, slice_get, sym, refl, ap, ◌∙◌, ◌∷◌, [], ◌++◌}
 use Rattle.wire_hub.specs.declared.passes.Mailbox.{Mailbox}
 use Rattle.wire_hub.specs.declared.view.Told.{Told}
 use Rattle.wire_hub.specs.declared.view.View.{View}
