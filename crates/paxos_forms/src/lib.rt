@@ -1,10 +1,20 @@
 //! Messages between members: those of Multi-Paxos, and those by which an incarnation joins and recovers.
 #![tactic(auto)]
 
+mod codec;
+mod donors;
+mod fault;
+mod gives;
+mod incs;
+mod members;
 mod message;
 mod recovery;
 mod welcome;
+mod welcomes;
+mod wires;
 
+pub use codec::{decode, encode};
+pub use fault::MessageFault;
 pub use message::{Message, Wire};
 pub use recovery::{Ask, Give, Given};
 pub use welcome::{Welcome, WelcomeMember};
