@@ -1,1 +1,0 @@
-// How decided values spread.
