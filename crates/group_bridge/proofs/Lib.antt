@@ -1,3 +1,3 @@
+mod Lists
 mod Moved
 mod Taken
-mod Projected

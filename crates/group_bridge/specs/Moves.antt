@@ -1,5 +1,5 @@
 -- How a member comes to be another one: by acts of its node, by things left in its history, and by messages that aren't its node's.
-use Rattle.std.specs.Prelude.{◌≡◌, ◌⊎◌, ℕ, Bool, true, false, Option, List, [], ◌∷◌, ◌++◌, ◌==◌, map}
+use Rattle.std.specs.Prelude.{◌≡◌, ◌⊎◌, ℕ, Bool, true, false, Option, Some, None, List, [], ◌∷◌, ◌++◌, ◌==◌}
 use Rattle.gr_ids.specs.declared.names.Inc.{Inc}
 use Rattle.slot_values.specs.declared.value.Value.{Value}
 use Rattle.paxos_forms.specs.declared.message.Message.{Message}
@@ -11,10 +11,14 @@ use Rattle.node_rules.specs.Lists.{In}
 use Rattle.node_rules.specs.declared.taken.Taken.{Taken}
 use Rattle.node_rules.specs.Taking.{take}
 use Rattle.node_rules.specs.Welcoming.{Shown}
-use Rattle.node_rules.specs.World.{Act, Owns, Takes, does, does_all, made_by, all_made_by}
+use Rattle.node_rules.specs.World.{Act, Owns, Campaigns, Ticks, Proposes, Takes, does, does_all, all_made_by}
 use Rattle.group_rules.specs.Events.{Did, Made, Took, Skips, Life, Event, Hears}
+use Rattle.group_rules.specs.Life.{state, is_up, view}
+use Rattle.group_rules.specs.View.{shown}
 use Rattle.group_rules.specs.Member.{Member, push, send, by_node, at_node}
+use Rattle.group_rules.specs.Taking.{takes_slots}
 use Rattle.group_rules.specs.Steps.{step}
+use Rattle.group_bridge.specs.Left.{IsLeft, IsMade, IsSent, taken_left, with_rise}
 
 -- messages that aren't the node's: an Ask, a Give, and the Add of a joiner
 abbrev pub is_apart : Wire → Bool
@@ -27,29 +31,37 @@ is_apart x = false
 abbrev pub acts : Act → Member → Member
 acts x a = by_node (does a.me.inc x) a
 
--- the slot that was taken or skipped, and its value
-pub record Slot : Type 0 where
-  pub slot : ℕ
-  pub value : Value
+-- an act that makes nothing and takes nothing
+abbrev pub is_inner : Act → Bool
+is_inner Campaigns = true
+is_inner Ticks = true
+is_inner Proposes = true
+is_inner x = false
 
-abbrev pub slots_of : Did → List Slot
-slots_of (Took e) = record { slot = e.slot; value = e.value } ∷ []
-slots_of (Skips t v) = record { slot = t; value = v } ∷ []
-slots_of d = []
+-- what a Welcome shows, if one is sent: the view with the Add, at a member that is ONLINE
+abbrev pub IsShown : Member → Taken → Option Shown → Type 0
+IsShown a x None = Unit {0}
+IsShown a x (Some v) = let l : Life = taken_left a.setup a.life x ∷ a.life in (is_up (state l) ≡ true) × (v ≡ shown (view a.setup l))
 
--- those that a node handed out
-abbrev pub slots_taken : List Taken → List Slot
-slots_taken xs = map {A = Taken} (λ x. record { slot = x.slot; value = x.value }) xs
+-- the node handed out this slot, to a member that takes slots
+pub record IsRead (a : Member) (x : Taken) (greets : Option Shown) : Type 0 where
+  pub took : (take a.node).took ≡ x ∷ []
+  pub ready : takes_slots a.life ≡ true
+  pub shown : IsShown a x greets
 
--- One thing after another. An own value is made and is the node's own; a slot is taken by the node and by the member.
-pub data Moves : Member → Member → Type 0 where
-  Stays : (a : Member) → Moves a a
-  Leaves : (d : Did) (a : Member) → slots_of d ≡ [] → Moves a (push d a)
-  Sends : (i : Inc) (x : Wire) (a : Member) → is_apart x ≡ true → Moves a (send i x a)
-  Acts : (x : Act) (a : Member) → made_by a.me.inc x ≡ [] → Moves a (acts x a)
-  Makes : (v : Value) (holds : Option Body) (a : Member) → v.id.origin ≡ a.me.inc → Moves a (acts (Owns v) (push (Made v holds) a))
-  Reads : (s : Option Shown) (d : Did) (a : Member) → slots_of d ≡ slots_taken (take a.node).took → Moves a (push d (acts (Takes s) a))
-  Then : {a b c : Member} → Moves a b → Moves b c → Moves a c
+-- the member whose node has taken the slot, with what it leaves
+abbrev pub reads : Option Shown → Taken → Member → Member
+reads g x a = record (acts (Takes g) a) { life = with_rise a.me.inc (taken_left a.setup a.life x) a.life }
+
+-- One thing after another, in a step for the event e.
+pub data Moves (e : Event) : Member → Member → Type 0 where
+  Stays : (a : Member) → Moves e a a
+  Leaves : (d : Did) (a : Member) → IsLeft e a.setup a.me.inc a.life d → Moves e a (push d a)
+  Sends : (to : Inc) (x : Wire) (a : Member) → is_apart x ≡ true → IsSent a.setup a.life to x → Moves e a (send to x a)
+  Acts : (x : Act) (a : Member) → is_inner x ≡ true → Moves e a (acts x a)
+  Makes : (v : Value) (holds : Option Body) (a : Member) → IsMade a.setup a.me.inc a.life v holds → Moves e a (acts (Owns v) (push (Made v holds) a))
+  Reads : (g : Option Shown) (x : Taken) (a : Member) → IsRead a x g → Moves e a (reads g x a)
+  Then : {a b c : Member} → Moves e a b → Moves e b c → Moves e a c
 
 -- the messages of the step before are gone
 abbrev pub cleared : Member → Member
@@ -59,6 +71,34 @@ cleared a = record a { sent = [] }
 abbrev pub Begins : Event → Member → Member → Type 0
 Begins e a b = (b ≡ cleared a) ⊎ ((m : Message) × (e ≡ Hears m) × (is_apart m.wire ≡ false) × (b ≡ at_node (Heard m) (cleared a)))
 
+pub record Steps (e : Event) (a c : Member) : Type 0 where
+  pub begin : Member
+  pub begins : Begins e a begin
+  pub moves : Moves e begin c
+
+-- ---- what follows of the node
+
+-- P holds of each of these, with what was left before it
+abbrev pub Each : (Did → Life → Type 0) → Life → Life → Type 0
+Each P [] base = Unit {0}
+Each P (d ∷ more) base = P d (more ++ base) × Each P more base
+
+-- A slot that was left by `l` was handed out after some of the acts, and what these had made is in `l`.
+pub record TookBy (a : Member) (all : List Act) (d : Did) (l : Life) : Type 0 where
+  pub acts : List Act
+  pub rest : List Act
+  pub some : all ≡ acts ++ rest
+  pub taken : Taken
+  pub by : In taken (does_all a.me.inc acts a.node).took
+  pub left : d ≡ taken_left a.setup l taken
+  pub ready : takes_slots l ≡ true
+  pub made : (v : Value) → In v (all_made_by a.me.inc acts) → (holds : Option Body) × In (Made v holds) l
+
+abbrev pub TookRightly : Member → List Act → Did → Life → Type 0
+TookRightly a all (Took e) l = TookBy a all (Took e) l
+TookRightly a all (Skips t v) l = TookBy a all (Skips t v) l
+TookRightly a all d l = Unit {0}
+
 -- What a list of acts makes of a member: its node is theirs, each message is there before, theirs, or one that isn't the node's. Its history grows: each
 -- slot that it has taken is taken by the acts, and each value that they make is made in it.
 pub record IsActs (a b : Member) : Type 0 where
@@ -67,7 +107,7 @@ pub record IsActs (a b : Member) : Type 0 where
   pub sent : (m : Message) → In m b.sent → In m a.sent ⊎ (In m (does_all a.me.inc acts a.node).sent ⊎ (is_apart m.wire ≡ true))
   pub more : Life
   pub grown : b.life ≡ more ++ a.life
-  pub took : (d : Did) (x : Slot) → In d more → In x (slots_of d) → In x (slots_taken (does_all a.me.inc acts a.node).took)
+  pub took : Each (TookRightly a acts) more a.life
   pub made : (v : Value) → In v (all_made_by a.me.inc acts) → (holds : Option Body) × In (Made v holds) more
   pub me : b.me ≡ a.me
   pub setup : b.setup ≡ a.setup
