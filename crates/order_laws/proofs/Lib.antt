@@ -13,3 +13,5 @@ mod Runs
 mod Keeps
 mod Taken
 mod Made
+mod Hands
+mod Greets

@@ -1,12 +1,14 @@
 -- The laws of the order, as statements on a world.
-use Rattle.std.specs.Prelude.{ℕ, zero, suc, true, false, ◌+◌, ◌-◌, ◌≡◌, ◌<◌, ◌≤◌, ◌⊎◌, length, Some, None, List, [], ◌∷◌, ◌++◌, map, filter, slice_get}
+use Rattle.std.specs.Prelude.{ℕ, Bool, zero, suc, true, false, ◌+◌, ◌-◌, ◌≡◌, ◌<◌, ◌≤◌, ◌⊎◌, length, Some, None, List, [], ◌∷◌, ◌++◌, map, filter, slice_get}
 use Rattle.gr_ids.specs.Names.{inc_eq, has_inc}
 use Rattle.slot_values.specs.Log.{Group, Turns, config, config_of, after, became, is_kept, has_effect}
 use Rattle.node_rules.specs.Lists.{In}
 use Rattle.node_rules.specs.Chosen.{Cast, IsChosen, IsChosenLog}
 use Rattle.node_rules.specs.Node.{Node}
-use Rattle.node_rules.specs.World.{World, Event, Took, Arranges, run}
-use Rattle.order_laws.specs.Names.{Inc, Value, Noop, Add, Joiner, Message}
+use Rattle.node_rules.specs.Step.{node_step}
+use Rattle.node_rules.specs.Taking.{take}
+use Rattle.node_rules.specs.World.{World, Event, Took, Act, Takes, Arranges, does, run}
+use Rattle.order_laws.specs.Names.{Inc, Value, Noop, Add, Joiner, Message, Wire, Greet, Welcome, WelcomeMember, Heard}
 
 -- It holds after every list of events, in whatever order the messages of a step go on the wire.
 abbrev pub InEveryRun : (Group → World → Type 0) → Type 0
@@ -59,6 +61,45 @@ Consecutive g w = (i : Inc) (n : Node) → w.at i ≡ Some n
     → (n.turns ≡ None → slots_by i w.took ≡ [])
     × ((t : Turns) → n.turns ≡ Some t → (s : ℕ) × (s ≤ t.slot) × (slots_by i w.took ≡ count_up (s + 1) (t.slot - s))
     × (has_inc g.founders i ≡ true → s ≡ 0) × (has_inc g.founders i ≡ false → AddedIn g w.cast i s))
+
+-- ---- nodes and Welcomes
+
+-- Each node is that of its incarnation.
+abbrev pub Named : Group → World → Type 0
+Named g w = (i : Inc) (n : Node) → w.at i ≡ Some n → n.me ≡ i
+
+-- What a Welcome tells of the log is that of a log of chosen values, whose last slot holds the Add of the one that it is sent to.
+abbrev pub WelcomesFollow : Group → World → Type 0
+WelcomesFollow g w = (m : Message) (x : Welcome) → In m w.wire → m.wire ≡ Greet x
+    → (log : List Value) × IsChosenLog g w.cast log × (x.slot ≡ length log) × (x.place ≡ (after g log).place) × (map {A = WelcomeMember} (λ y. record { inc = y.joiner.inc; last = y.last }) x.members ≡ (after g log).members) × AddedIn g w.cast m.to x.slot
+
+abbrev pub is_taking : Act → Bool
+is_taking (Takes s) = true
+is_taking x = false
+
+-- No act but the taking of a slot hands one out.
+abbrev pub OnlyTakingTakes : Type 0
+OnlyTakingTakes = (i : Inc) (x : Act) (n : Node) → is_taking x ≡ false → (does i x n).took ≡ []
+
+-- Nor does a message that is heard.
+abbrev pub HearingTakesNone : Type 0
+HearingTakesNone = (m : Message) (n : Node) → (node_step (Heard m) n).took ≡ []
+
+abbrev pub is_greet : Wire → Bool
+is_greet (Greet x) = true
+is_greet x = false
+
+-- No act but the taking of a slot sends a Welcome.
+abbrev pub OnlyTakingGreets : Type 0
+OnlyTakingGreets = (i : Inc) (x : Act) (n : Node) (m : Message) → is_taking x ≡ false → In m (does i x n).sent → is_greet m.wire ≡ false
+
+-- Nor does one that hears a message.
+abbrev pub HearingGreetsNobody : Type 0
+HearingGreetsNobody = (h : Message) (n : Node) (m : Message) → In m (node_step (Heard h) n).sent → is_greet m.wire ≡ false
+
+-- The taking alone sends nothing but the Welcome that it is asked to send.
+abbrev pub TakingIsSilent : Type 0
+TakingIsSilent = (n : Node) → (take n).sent ≡ []
 
 -- ---- made before
 
