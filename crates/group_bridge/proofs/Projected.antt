@@ -1,6 +1,6 @@
 -- What follows from moves: the node comes from a list of acts, the messages are theirs or aren't the node's, the history grows.
-use Rattle.std.proofs.Common.{append_assoc, append-nil, ◌≡◌, ◌⊎◌, inl, inr, Bool, true, false, Option, List, [], ◌∷◌, ◌++◌, refl, sym, ◌∙◌, ap, subst}
-use Rattle.std.specs.Prelude.{if◌then◌else◌}
+use Rattle.std.proofs.Common.{append_assoc, append-nil, ◌≡◌, ◌⊎◌, inl, inr, Bool, true, false, Option, Some, None, List, [], ◌∷◌, ◌++◌, refl, sym, ◌∙◌, ap, subst}
+use Rattle.std.specs.Prelude.{ℕ, if◌then◌else◌, ◌&&◌, map, flat_map, not}
 use Rattle.std.proofs.lemmas.Bool.{false≢true}
 use Rattle.gr_ids.specs.Names.{inc_eq}
 use Rattle.gr_ids.specs.declared.names.Inc.{Inc}
@@ -11,18 +11,29 @@ use Rattle.txn_forms.specs.declared.body.Body.{Body}
 use Rattle.paxos_forms.specs.declared.message.Message.{Message}
 use Rattle.paxos_forms.specs.declared.message.Wire.{Wire}
 use Rattle.node_rules.specs.Lists.{In}
-use Rattle.node_rules.specs.Node.{Node, message}
+use Rattle.node_rules.specs.Node.{Node, message, takes_effect}
 use Rattle.node_rules.specs.declared.taken.Taken.{Taken}
 use Rattle.node_rules.specs.Taking.{take}
-use Rattle.node_rules.specs.Welcoming.{Shown}
-use Rattle.node_rules.specs.World.{Act, Owns, Campaigns, Ticks, Proposes, Takes, does, does_all, made_by, all_made_by}
+use Rattle.node_rules.specs.Welcoming.{Shown, welcome_of}
+use Rattle.node_rules.specs.World.{Act, Owns, Campaigns, Ticks, Proposes, Takes, does, does_all, greets, greet_by, made_by, all_made_by}
+use Rattle.order_laws.specs.Laws.{is_taking, is_joining, OnlyTakingTakes, OnlyTakingGreets, TakingIsSilent}
 use Rattle.group_rules.specs.declared.marks.Cause.TheVariants.{OwnOnline}
-use Rattle.gr_ids.specs.declared.levels.MemberState.TheVariants.{Online}
-use Rattle.group_rules.specs.Events.{Event, Did, Founds, Starts, Came, Made, Took, Skips, Done, Committed, Is, Gave, Answered, Begun, Changed, Replied, Called, AsksCommit, Ends, Enters, Restores, AskFails, Life, Entry}
+use Rattle.gr_ids.specs.declared.levels.MemberState.TheVariants.{Offline, Recovering, Online, Error}
+use Rattle.slot_values.specs.declared.value.Joiner.{Joiner}
+use Rattle.slot_values.specs.declared.value.What.{What}
+use Rattle.slot_values.specs.declared.value.What.TheVariants.{Noop, Add, Remove, Body as Says}
+use Rattle.slot_values.specs.Log.{Turns}
+use Rattle.paxos_forms.specs.declared.message.Wire.TheVariants.{Prepare, Promise, Accept, Accepted, Learn, Offer, Welcome as Greet, Ask, Give, Alive, Gone}
+use Rattle.paxos_forms.specs.declared.welcome.Welcome.{Welcome}
+use Rattle.group_rules.specs.declared.marks.Effect.TheVariants.{Plain}
+use Rattle.group_rules.specs.Events.{Event, Did, Founds, Starts, Came, Made, Took, Skips, Done, Committed, Is, Gave, Answered, Begun, Changed, Replied, Called, AsksCommit, Ends, Enters, Restores, AskFails, Life, Setup, Entry}
+use Rattle.group_rules.specs.Life.{state, is_up, view}
+use Rattle.group_rules.specs.View.{shown, effect_in}
+use Rattle.group_rules.specs.Parts.{open_parts, held}
 use Rattle.group_rules.specs.Member.{Member}
-use Rattle.group_rules.specs.Taking.{entry_of, takes_slots}
-use Rattle.group_bridge.specs.Left.{IsLeft, slot_left, taken_left, is_arrival_of, with_rise}
-use Rattle.group_bridge.specs.Moves.{is_apart, is_inner, IsRead, reads, Moves, Stays, Leaves, Sends, Acts, Makes, Reads, Then, Each, TookBy, TookRightly, IsActs, StepIsActs}
+use Rattle.group_rules.specs.Taking.{effect_of, entry_of, takes_slots}
+use Rattle.group_bridge.specs.Left.{IsLeft, IsState, IsSent, slot_left, taken_left, is_arrival_of, with_rise}
+use Rattle.group_bridge.specs.Moves.{is_apart, is_inner, is_ask_or_give, IsShown, IsRead, reads, Moves, Stays, Leaves, Sends, Acts, Makes, Reads, Then, Each, IsAllowed, TookBy, TookRightly, SentBy, GreetedBy, slots_in, IsActs, StepIsActs}
 use Rattle.group_bridge.proofs.Lists.{in_left, in_right, in_either}
 use Rattle.group_bridge.proofs.Taken.{steps}
 
@@ -68,6 +79,37 @@ each_map : (P Q : Did → Life → Type 0) (base xs : Life) → ((d : Did) (more
 each_map P Q base [] h p = tt
 each_map P Q base (d ∷ xs) h p = (h d xs p.0, each_map P Q base xs h p.1)
 
+slots_then : (xs ys : Life) → slots_in (xs ++ ys) ≡ slots_in ys ++ slots_in xs
+slots_then [] ys = sym (append-nil (slots_in ys))
+slots_then (Took x ∷ xs) ys = ap (λ l. l ++ x.slot ∷ []) (slots_then xs ys) ∙ append_assoc (slots_in ys) (slots_in xs) (x.slot ∷ [])
+slots_then (Skips t v ∷ xs) ys = ap (λ l. l ++ t ∷ []) (slots_then xs ys) ∙ append_assoc (slots_in ys) (slots_in xs) (t ∷ [])
+slots_then (Founds ∷ xs) ys = slots_then xs ys
+slots_then (Starts x ∷ xs) ys = slots_then xs ys
+slots_then (Came x ∷ xs) ys = slots_then xs ys
+slots_then (Made v h ∷ xs) ys = slots_then xs ys
+slots_then (Done p ∷ xs) ys = slots_then xs ys
+slots_then (Committed g ∷ xs) ys = slots_then xs ys
+slots_then (Is s c ∷ xs) ys = slots_then xs ys
+slots_then (Gave p n ∷ xs) ys = slots_then xs ys
+slots_then (Answered s x ∷ xs) ys = slots_then xs ys
+slots_then (Begun s x y ∷ xs) ys = slots_then xs ys
+slots_then (Changed s c ∷ xs) ys = slots_then xs ys
+slots_then (Replied r ∷ xs) ys = slots_then xs ys
+slots_then (Called s v w ∷ xs) ys = slots_then xs ys
+slots_then (AsksCommit s i ∷ xs) ys = slots_then xs ys
+slots_then (Ends s ∷ xs) ys = slots_then xs ys
+slots_then (Enters w ∷ xs) ys = slots_then xs ys
+slots_then (Restores g cs ∷ xs) ys = slots_then xs ys
+slots_then (AskFails ∷ xs) ys = slots_then xs ys
+
+map_then : {A B : Type 0} (f : A → B) (xs ys : List A) → map f (xs ++ ys) ≡ map f xs ++ map f ys
+map_then f [] ys = refl
+map_then f (x ∷ xs) ys = ap (λ l. f x ∷ l) (map_then f xs ys)
+
+took_then_list : (i : Inc) (xs ys : List Act) (n : Node) → (does_all i (xs ++ ys) n).took ≡ (does_all i xs n).took ++ (does_all i ys (does_all i xs n).node).took
+took_then_list i [] ys n = refl
+took_then_list i (x ∷ xs) ys n = ap (λ l. (does i x n).took ++ l) (took_then_list i xs ys (does i x n).node) ∙ sym (append_assoc (does i x n).took (does_all i xs (does i x n).node).took (does_all i ys (does_all i xs (does i x n).node).node).took)
+
 -- ---- messages
 
 -- a message is there before, sent by the acts, or not the node's
@@ -83,10 +125,10 @@ apart_sent m i x a w h = elim (in_either m a.sent (message a.node i x ∷ []) h)
   | inr q ↦ elim q [ inl e ↦ inr (inr (subst (λ k. is_apart k.wire ≡ true) e w)) | inr z ↦ absurd z ]
 ]
 
-after_sent : (m : Message) (a b c : Member) (p : IsActs a b) (q : IsActs b c) → Sent m b.sent a.me.inc q.acts b.node → Sent m a.sent a.me.inc (p.acts ++ q.acts) a.node
-after_sent m a b c p q (inl h) = elim (p.sent m h) [ inl z ↦ inl z | inr z ↦ inr (elim z [ inl y ↦ inl (sent_left m a.me.inc p.acts q.acts a.node y) | inr y ↦ inr y ]) ]
-after_sent m a b c p q (inr (inl h)) = inr (inl (sent_right m a.me.inc p.acts q.acts a.node (subst (λ n. In m (does_all a.me.inc q.acts n).sent) p.node h)))
-after_sent m a b c p q (inr (inr h)) = inr (inr h)
+after_sent : (m : Message) (e : Event) (a b c : Member) (p : IsActs e a b) (q : IsActs e b c) → Sent m b.sent a.me.inc q.acts b.node → Sent m a.sent a.me.inc (p.acts ++ q.acts) a.node
+after_sent m e a b c p q (inl h) = elim (p.sent m h) [ inl z ↦ inl z | inr z ↦ inr (elim z [ inl y ↦ inl (sent_left m a.me.inc p.acts q.acts a.node y) | inr y ↦ inr y ]) ]
+after_sent m e a b c p q (inr (inl h)) = inr (inl (sent_right m a.me.inc p.acts q.acts a.node (subst (λ n. In m (does_all a.me.inc q.acts n).sent) p.node h)))
+after_sent m e a b c p q (inr (inr h)) = inr (inr h)
 
 -- ---- slots
 
@@ -103,9 +145,17 @@ took_first a xs ys d l t = record {
   made = t.made;
 }
 
-module _ (a b c : Member) (p : IsActs a b) (q : IsActs b c) where
+module _ (e : Event) (a b c : Member) (p : IsActs e a b) (q : IsActs e b c) where
   same_inc : b.me.inc ≡ a.me.inc
   same_inc = ap (λ j. j.inc) p.me
+
+  -- the acts that come after the first ones begin with the node that these leave
+  node_after : (xs : List Act) → (does_all a.me.inc (p.acts ++ xs) a.node).node ≡ (does_all b.me.inc xs b.node).node
+  node_after xs = node_then a.me.inc p.acts xs a.node ∙ (ap (λ n. (does_all a.me.inc xs n).node) (sym p.node) ∙ ap (λ i. (does_all i xs b.node).node) (sym same_inc))
+
+  -- what went on from b goes on from a
+  goes_on : (more : Life) → more ++ b.life ≡ (more ++ p.more) ++ a.life
+  goes_on more = ap (λ l. more ++ l) p.grown ∙ sym (append_assoc more p.more a.life)
 
   took_then : (d : Did) (more : Life) → TookBy b q.acts d (more ++ b.life) → TookBy a (p.acts ++ q.acts) d (more ++ b.life)
   took_then d more t = record {
@@ -127,14 +177,14 @@ module _ (a b c : Member) (p : IsActs a b) (q : IsActs b c) where
   rightly_then (Skips t v) more h = took_then (Skips t v) more h
   rightly_then Founds more z = tt
   rightly_then (Starts x) more z = tt
-  rightly_then (Came e) more z = tt
+  rightly_then (Came x) more z = tt
   rightly_then (Made v h) more z = tt
   rightly_then (Done p) more z = tt
   rightly_then (Committed g) more z = tt
   rightly_then (Is s c) more z = tt
   rightly_then (Gave p n) more z = tt
   rightly_then (Answered s x) more z = tt
-  rightly_then (Begun s e y) more z = tt
+  rightly_then (Begun s x y) more z = tt
   rightly_then (Changed s c) more z = tt
   rightly_then (Replied r) more z = tt
   rightly_then (Called s v w) more z = tt
@@ -149,14 +199,14 @@ module _ (a b c : Member) (p : IsActs a b) (q : IsActs b c) where
   rightly_first (Skips t v) more h = took_first a p.acts q.acts (Skips t v) (more ++ a.life) h
   rightly_first Founds more z = tt
   rightly_first (Starts x) more z = tt
-  rightly_first (Came e) more z = tt
+  rightly_first (Came x) more z = tt
   rightly_first (Made v h) more z = tt
   rightly_first (Done p) more z = tt
   rightly_first (Committed g) more z = tt
   rightly_first (Is s c) more z = tt
   rightly_first (Gave p n) more z = tt
   rightly_first (Answered s x) more z = tt
-  rightly_first (Begun s e y) more z = tt
+  rightly_first (Begun s x y) more z = tt
   rightly_first (Changed s c) more z = tt
   rightly_first (Replied r) more z = tt
   rightly_first (Called s v w) more z = tt
@@ -166,21 +216,94 @@ module _ (a b c : Member) (p : IsActs a b) (q : IsActs b c) where
   rightly_first (Restores g cs) more z = tt
   rightly_first AskFails more z = tt
 
-  joins : IsActs a c
+  allowed_then : (d : Did) (more : Life) → IsAllowed e b.setup b.me.inc d (more ++ b.life) → IsAllowed e a.setup a.me.inc d (more ++ b.life)
+  allowed_then d more h = subst (λ i. IsAllowed e a.setup i d (more ++ b.life)) same_inc (subst (λ s. IsAllowed e s b.me.inc d (more ++ b.life)) p.setup h)
+
+  sent_first : (m : Message) → SentBy a p.acts p.more m → SentBy a (p.acts ++ q.acts) (q.more ++ p.more) m
+  sent_first m k = record {
+    later = q.more ++ k.later;
+    earlier = k.earlier;
+    split = ap (λ l. q.more ++ l) k.split ∙ sym (append_assoc q.more k.later k.earlier);
+    acts = k.acts;
+    rest = k.rest ++ q.acts;
+    some = ap (λ z. z ++ q.acts) k.some ∙ append_assoc k.acts k.rest q.acts;
+    from = k.from;
+    sent = k.sent;
+  }
+
+  sent_then : (m : Message) → SentBy b q.acts q.more m → SentBy a (p.acts ++ q.acts) (q.more ++ p.more) m
+  sent_then m k = record {
+    later = k.later;
+    earlier = k.earlier ++ p.more;
+    split = ap (λ l. l ++ p.more) k.split ∙ append_assoc k.later k.earlier p.more;
+    acts = p.acts ++ k.acts;
+    rest = k.rest;
+    some = ap (λ z. p.acts ++ z) k.some ∙ sym (append_assoc p.acts k.acts k.rest);
+    from = k.from ∙ ap (λ n. n.me) (sym (node_after k.acts));
+    sent = subst (λ l. IsSent a.setup l m.to m.wire) (goes_on k.earlier) (subst (λ s. IsSent s (k.earlier ++ b.life) m.to m.wire) p.setup k.sent);
+  }
+
+  greeted_first : (m : Message) (w : Welcome) → GreetedBy a p.more m w → GreetedBy a (q.more ++ p.more) m w
+  greeted_first m w k = record {
+    later = q.more ++ k.later;
+    earlier = k.earlier;
+    add = k.add;
+    split = ap (λ l. q.more ++ l) k.split ∙ sym (append_assoc q.more k.later (Took k.add ∷ k.earlier));
+    joiner = k.joiner;
+    adds = k.adds;
+    effect = k.effect;
+    to = k.to;
+    up = k.up;
+    node = k.node;
+    turns = k.turns;
+    welcome = k.welcome;
+  }
+
+  greeted_then : (m : Message) (w : Welcome) → GreetedBy b q.more m w → GreetedBy a (q.more ++ p.more) m w
+  greeted_then m w k = record {
+    later = k.later;
+    earlier = k.earlier ++ p.more;
+    add = k.add;
+    split = ap (λ l. l ++ p.more) k.split ∙ append_assoc k.later (Took k.add ∷ k.earlier) p.more;
+    joiner = k.joiner;
+    adds = k.adds;
+    effect = k.effect;
+    to = k.to;
+    up = subst (λ l. is_up (state l) ≡ true) (goes_on k.earlier) k.up;
+    node = k.node;
+    turns = k.turns;
+    welcome = subst (λ l. w ≡ welcome_of k.node k.turns (shown (view a.setup (Took k.add ∷ l)))) (goes_on k.earlier) (subst (λ s. w ≡ welcome_of k.node k.turns (shown (view s (Took k.add ∷ k.earlier ++ b.life)))) p.setup k.welcome);
+  }
+
+  joins : IsActs e a c
   joins = record {
     acts = p.acts ++ q.acts;
-    node = subst (λ i. c.node ≡ (does_all i q.acts b.node).node) same_inc q.node ∙ (ap (λ n. (does_all a.me.inc q.acts n).node) p.node ∙ sym (node_then a.me.inc p.acts q.acts a.node));
-    sent = λ m h. after_sent m a b c p q (subst (λ i. Sent m b.sent i q.acts b.node) same_inc (q.sent m h));
+    node = q.node ∙ sym (node_after q.acts);
+    sent = λ m h. after_sent m e a b c p q (subst (λ i. Sent m b.sent i q.acts b.node) same_inc (q.sent m h));
     more = q.more ++ p.more;
-    grown = q.grown ∙ (ap (λ l. q.more ++ l) p.grown ∙ sym (append_assoc q.more p.more a.life));
+    grown = q.grown ∙ goes_on q.more;
+    allowed = each_join (IsAllowed e a.setup a.me.inc) q.more p.more a.life (subst (λ l. Each (IsAllowed e a.setup a.me.inc) q.more l) p.grown (each_map (IsAllowed e b.setup b.me.inc) (IsAllowed e a.setup a.me.inc) b.life q.more allowed_then q.allowed)) p.allowed;
     took = each_join (TookRightly a (p.acts ++ q.acts)) q.more p.more a.life (subst (λ l. Each (TookRightly a (p.acts ++ q.acts)) q.more l) p.grown (each_map (TookRightly b q.acts) (TookRightly a (p.acts ++ q.acts)) b.life q.more rightly_then q.took)) (each_map (TookRightly a p.acts) (TookRightly a (p.acts ++ q.acts)) a.life p.more rightly_first p.took);
+    slots = slots_both;
     made = λ v h. elim (made_either v a.me.inc p.acts q.acts h) [
       | inl z ↦ let y = p.made v z in (y.0, in_right (Made v y.0) q.more p.more y.1)
       | inr z ↦ let y = q.made v (subst (λ i. In v (all_made_by i q.acts)) (sym same_inc) z) in (y.0, in_left (Made v y.0) q.more p.more y.1)
     ];
+    asked = λ m h k. elim (q.asked m h k) [ inl z ↦ elim (p.asked m z k) [ inl y ↦ inl y | inr y ↦ inr (sent_first m y) ] | inr z ↦ inr (sent_then m z) ];
+    greeted = λ m w h k. elim (q.greeted m w h k) [ inl z ↦ elim (p.greeted m w z k) [ inl y ↦ inl y | inr y ↦ inr (greeted_first m w y) ] | inr z ↦ inr (greeted_then m w z) ];
     me = q.me ∙ p.me;
     setup = q.setup ∙ p.setup;
   }
+    where
+      later_slots : map (λ x. x.slot) (does_all a.me.inc q.acts (does_all a.me.inc p.acts a.node).node).took ≡ slots_in q.more
+      later_slots = ap (λ n. map (λ x. x.slot) (does_all a.me.inc q.acts n).took) (sym p.node) ∙ (ap (λ i. map (λ x. x.slot) (does_all i q.acts b.node).took) (sym same_inc) ∙ q.slots)
+
+      slots_both : map (λ x. x.slot) (does_all a.me.inc (p.acts ++ q.acts) a.node).took ≡ slots_in (q.more ++ p.more)
+      slots_both =
+          ap (λ l. map (λ x. x.slot) l) (took_then_list a.me.inc p.acts q.acts a.node)
+          ∙ (map_then (λ x. x.slot) (does_all a.me.inc p.acts a.node).took (does_all a.me.inc q.acts (does_all a.me.inc p.acts a.node).node).took
+          ∙ (ap (λ l. l ++ map (λ x. x.slot) (does_all a.me.inc q.acts (does_all a.me.inc p.acts a.node).node).took) p.slots
+          ∙ (ap (λ l. slots_in p.more ++ l) later_slots ∙ sym (slots_then q.more p.more))))
 
 -- ---- one move
 
@@ -207,6 +330,53 @@ left_rightly e a (Enters w) z = tt
 left_rightly e a (Restores g cs) z = tt
 left_rightly e a AskFails z = tt
 
+left_no_slot : (e : Event) (a : Member) (d : Did) → IsLeft e a.setup a.me.inc a.life d → [] ≡ slots_in (d ∷ [])
+left_no_slot e a (Took x) h = absurd h
+left_no_slot e a (Skips t v) h = absurd h
+left_no_slot e a Founds z = refl
+left_no_slot e a (Starts x) z = refl
+left_no_slot e a (Came x) z = refl
+left_no_slot e a (Made v h) z = refl
+left_no_slot e a (Done p) z = refl
+left_no_slot e a (Committed g) z = refl
+left_no_slot e a (Is s c) z = refl
+left_no_slot e a (Gave p n) z = refl
+left_no_slot e a (Answered s x) z = refl
+left_no_slot e a (Begun s x y) z = refl
+left_no_slot e a (Changed s c) z = refl
+left_no_slot e a (Replied r) z = refl
+left_no_slot e a (Called s v w) z = refl
+left_no_slot e a (AsksCommit s i) z = refl
+left_no_slot e a (Ends s) z = refl
+left_no_slot e a (Enters w) z = refl
+left_no_slot e a (Restores g cs) z = refl
+left_no_slot e a AskFails z = refl
+
+left_allowed : (e : Event) (a : Member) (d : Did) → IsLeft e a.setup a.me.inc a.life d → IsAllowed e a.setup a.me.inc d a.life
+left_allowed e a (Took x) h = absurd h
+left_allowed e a (Skips t v) h = absurd h
+left_allowed e a (Made v x) h = absurd h
+left_allowed e a (Is Online c) h = absurd h
+left_allowed e a (Is Offline c) h = absurd h
+left_allowed e a (Is Recovering c) h = h
+left_allowed e a (Is Error c) h = h
+left_allowed e a Founds z = z
+left_allowed e a (Starts x) z = z
+left_allowed e a (Came x) z = z
+left_allowed e a (Done p) z = z
+left_allowed e a (Committed g) z = z
+left_allowed e a (Gave p n) z = z
+left_allowed e a (Answered s x) z = z
+left_allowed e a (Begun s x y) z = z
+left_allowed e a (Changed s c) z = z
+left_allowed e a (Replied r) z = z
+left_allowed e a (Called s v w) z = z
+left_allowed e a (AsksCommit s i) z = z
+left_allowed e a (Ends s) z = z
+left_allowed e a (Enters w) z = z
+left_allowed e a (Restores g cs) z = z
+left_allowed e a AskFails z = z
+
 made_one : (v w : Value) (holds : Option Body) (i : Inc) → In w (all_made_by i (Owns v ∷ [])) → (b : Option Body) × In (Made w b) (Made v holds ∷ [])
 made_one v w holds i h = go (inc_eq v.id.origin i) h
   where
@@ -220,42 +390,199 @@ none_made (Owns w) v i l e h = absurd (false≢true e)
 none_made Campaigns v i l e h = absurd h
 none_made Ticks v i l e h = absurd h
 none_made Proposes v i l e h = absurd h
-none_made (Takes s) v i l e h = absurd h
+none_made (Takes s) v i l e h = absurd (false≢true e)
 
-one_taken : (a : Member) (x : Taken) (g : Option Shown) → IsRead a x g → (d : Did) → d ≡ taken_left a.setup a.life x → TookBy a (Takes g ∷ []) d a.life
-one_taken a x g r d q = record {
-  acts = Takes g ∷ [];
-  rest = [];
-  some = refl;
-  taken = x;
-  by = in_left x (take a.node).took [] (subst (λ l. In x l) (sym r.took) (inl refl));
-  left = q;
-  ready = r.ready;
-  made = λ v h. absurd h;
-}
+not_taking : (x : Act) → is_inner x ≡ true → is_taking x ≡ false
+not_taking (Owns w) e = refl
+not_taking Campaigns e = refl
+not_taking Ticks e = refl
+not_taking Proposes e = refl
+not_taking (Takes s) e = absurd (false≢true e)
 
-reads_acts : (g : Option Shown) (x : Taken) (a : Member) → IsRead a x g → IsActs a (reads g x a)
-reads_acts g x a r = go x.kept refl
+joins_by : (x : Wire) → is_ask_or_give x ≡ true → is_joining x ≡ true
+joins_by (Ask x) e = refl
+joins_by (Give x) e = refl
+joins_by (Greet x) e = absurd (false≢true e)
+joins_by (Prepare b s) e = absurd (false≢true e)
+joins_by (Promise b s xs) e = absurd (false≢true e)
+joins_by (Accept b t v) e = absurd (false≢true e)
+joins_by (Accepted b t) e = absurd (false≢true e)
+joins_by (Learn t v) e = absurd (false≢true e)
+joins_by (Offer v) e = absurd (false≢true e)
+joins_by (Alive k) e = absurd (false≢true e)
+joins_by Gone e = absurd (false≢true e)
+
+-- ---- a message that is sent beside the node
+
+sent_beside : (to : Inc) (x : Wire) (a : Member) → IsSent a.setup a.life to x → (m : Message) → In m (a.sent ++ message a.node to x ∷ []) → In m a.sent ⊎ SentBy a [] [] m
+sent_beside to x a h m k = elim (in_either m a.sent (message a.node to x ∷ []) k) [
+  | inl z ↦ inl z
+  | inr z ↦ elim z [
+    | inl e ↦ inr (record { later = []; earlier = []; split = refl; acts = []; rest = []; some = refl; from = ap (λ y. y.from) (sym e); sent = subst (λ y. IsSent a.setup a.life y.to y.wire) e h })
+    | inr y ↦ absurd y
+  ]
+]
+
+no_welcome_beside : (to : Inc) (x : Wire) (a : Member) → is_apart x ≡ true → (m : Message) (w : Welcome) → In m (a.sent ++ message a.node to x ∷ []) → m.wire ≡ Greet w → In m a.sent ⊎ GreetedBy a [] m w
+no_welcome_beside to x a h m w k q = elim (in_either m a.sent (message a.node to x ∷ []) k) [
+  | inl z ↦ inl z
+  | inr z ↦ elim z [
+    | inl e ↦ absurd (false≢true (subst (λ y. is_apart y ≡ true) (ap (λ y. y.wire) e ∙ q) h))
+    | inr y ↦ absurd y
+  ]
+]
+
+-- ---- a Welcome
+
+-- what a node sends that takes a slot with a Welcome
+record Greeting (m : Message) (v : Shown) (n : Node) (x : Taken) : Type 0 where
+  joiner : Joiner
+  turns : Turns
+  effect : takes_effect x.kept ≡ true
+  adds : x.value.what ≡ Add joiner
+  is_it : m ≡ message n joiner.inc (Greet (welcome_of n turns v))
+
+greeting : (m : Message) (v : Shown) (n : Node) (x : Taken) → In m (greets (Some v) n x) → Greeting m v n x
+greeting m v n x h = go (takes_effect x.kept) refl h
   where
-    made_so : (more : Life) → Each (TookRightly a (Takes g ∷ [])) more a.life → IsActs a (record (reads g x a) { life = more ++ a.life })
-    made_so more t = record { acts = Takes g ∷ []; node = refl; sent = λ m h. one_sent m (Takes g) a h; more = more; grown = refl; took = t; made = λ v h. absurd h; me = refl; setup = refl }
+    by_what : takes_effect x.kept ≡ true → (o : Option Turns) (w : What) → x.value.what ≡ w → In m (greet_by n o w v) → Greeting m v n x
+    by_what e None w q k = absurd k
+    by_what e (Some u) (Add j) q (inl k) = record { joiner = j; turns = u; effect = e; adds = q; is_it = sym k }
+    by_what e (Some u) (Add j) q (inr k) = absurd k
+    by_what e (Some u) Noop q k = absurd k
+    by_what e (Some u) (Remove i) q k = absurd k
+    by_what e (Some u) (Says b) q k = absurd k
 
-    rises : (y : Entry) → Took y ≡ taken_left a.setup a.life x → (b : Bool) → IsActs a (record (reads g x a) { life = elim b [ true ↦ Is Online OwnOnline ∷ Took y ∷ a.life | false ↦ Took y ∷ a.life ] })
-    rises y q true = made_so (Is Online OwnOnline ∷ Took y ∷ []) (tt, (one_taken a x g r (Took y) q, tt))
-    rises y q false = made_so (Took y ∷ []) (one_taken a x g r (Took y) q, tt)
+    go : (b : Bool) → takes_effect x.kept ≡ b → In m (if b then greet_by n n.turns x.value.what v else []) → Greeting m v n x
+    go true e k = by_what e n.turns x.value.what refl k
+    go false e k = absurd k
 
-    go : (k : Kept) → x.kept ≡ k → IsActs a (record (reads g x a) { life = with_rise a.me.inc (slot_left a.setup a.life x.slot x.value k) a.life })
-    go IsSkipped q = made_so (Skips x.slot x.value ∷ []) (one_taken a x g r (Skips x.slot x.value) (ap (λ k. slot_left a.setup a.life x.slot x.value k) (sym q)), tt)
-    go (KeptAt p b) q = let y : Entry = entry_of a.setup a.life x.slot p b x.value in rises y (ap (λ k. slot_left a.setup a.life x.slot x.value k) (sym q)) (is_arrival_of a.me.inc y)
+module _ (only_takes : OnlyTakingTakes) (only_greets : OnlyTakingGreets) (silent : TakingIsSilent) where
+  none_taken : (x : Act) (a : Member) → is_taking x ≡ false → map (λ y. y.slot) (does_all a.me.inc (x ∷ []) a.node).took ≡ []
+  none_taken x a h = ap (λ l. map (λ y. y.slot) (l ++ [])) (only_takes a.me.inc x a.node h)
 
-pub is_acts : {e : Event} {a b : Member} → Moves e a b → IsActs a b
-is_acts (Stays a) = record { acts = []; node = refl; sent = λ m h. inl h; more = []; grown = refl; took = tt; made = λ v h. absurd h; me = refl; setup = refl }
-is_acts {e = e} (Leaves d a w) = record { acts = []; node = refl; sent = λ m h. inl h; more = d ∷ []; grown = refl; took = (left_rightly e a d w, tt); made = λ v h. absurd h; me = refl; setup = refl }
-is_acts (Sends i x a w z) = record { acts = []; node = refl; sent = λ m h. apart_sent m i x a w h; more = []; grown = refl; took = tt; made = λ v h. absurd h; me = refl; setup = refl }
-is_acts (Acts x a w) = record { acts = x ∷ []; node = refl; sent = λ m h. one_sent m x a h; more = []; grown = refl; took = tt; made = λ v h. none_made x v a.me.inc [] w h; me = refl; setup = refl }
-is_acts (Makes v holds a w) = record { acts = Owns v ∷ []; node = refl; sent = λ m h. one_sent m (Owns v) a h; more = Made v holds ∷ []; grown = refl; took = (tt, tt); made = λ u h. made_one v u holds a.me.inc h; me = refl; setup = refl }
-is_acts (Reads g x a w) = reads_acts g x a w
-is_acts (Then {a = a} {b = b} {c = c} p q) = joins a b c (is_acts p) (is_acts q)
+  none_asked : (x : Act) (a : Member) (more : Life) → is_taking x ≡ false → (m : Message) → In m (a.sent ++ (does a.me.inc x a.node).sent) → is_ask_or_give m.wire ≡ true → In m a.sent ⊎ SentBy a (x ∷ []) more m
+  none_asked x a more h m k q = elim (in_either m a.sent (does a.me.inc x a.node).sent k) [
+    | inl z ↦ inl z
+    | inr z ↦ absurd (false≢true (sym (only_greets a.me.inc x a.node m h z) ∙ joins_by m.wire q))
+  ]
 
-pub step_is_acts : (e : Event) (a : Member) → StepIsActs e a
-step_is_acts e a = let x = steps e a in record { begin = x.begin; begins = x.begins; is_acts = is_acts x.moves }
+  none_greeted : (x : Act) (a : Member) (more : Life) → is_taking x ≡ false → (m : Message) (w : Welcome) → In m (a.sent ++ (does a.me.inc x a.node).sent) → m.wire ≡ Greet w → In m a.sent ⊎ GreetedBy a more m w
+  none_greeted x a more h m w k q = elim (in_either m a.sent (does a.me.inc x a.node).sent k) [
+    | inl z ↦ inl z
+    | inr z ↦ absurd (false≢true (sym (only_greets a.me.inc x a.node m h z) ∙ ap is_joining q))
+  ]
+
+  -- ---- a slot
+
+  one_taken : (a : Member) (x : Taken) (g : Option Shown) → IsRead a x g → (d : Did) → d ≡ taken_left a.setup a.life x → TookBy a (Takes g ∷ []) d a.life
+  one_taken a x g r d q = record {
+    acts = Takes g ∷ [];
+    rest = [];
+    some = refl;
+    taken = x;
+    by = in_left x (take a.node).took [] (subst (λ l. In x l) (sym r.took) (inl refl));
+    left = q;
+    ready = r.ready;
+    made = λ v h. absurd h;
+  }
+
+  -- what is sent with it is a Welcome
+  sent_taking : (g : Option Shown) (x : Taken) (a : Member) → IsRead a x g → (m : Message) → In m (a.sent ++ (does a.me.inc (Takes g) a.node).sent) → In m a.sent ⊎ ((v : Shown) × (g ≡ Some v) × Greeting m v (take a.node).node x)
+  sent_taking g x a r m h = elim (in_either m a.sent ((take a.node).sent ++ flat_map (greets g (take a.node).node) (take a.node).took) h) [
+    | inl z ↦ inl z
+    | inr z ↦ inr (by g refl (subst (λ l. In m (flat_map (greets g (take a.node).node) l)) r.took (subst (λ l. In m (l ++ flat_map (greets g (take a.node).node) (take a.node).took)) (silent a.node) z)))
+  ]
+    where
+      one : (g' : Option Shown) → In m (greets g' (take a.node).node x ++ []) → In m (greets g' (take a.node).node x)
+      one g' k = subst (λ l. In m l) (append-nil (greets g' (take a.node).node x)) k
+
+      by : (g' : Option Shown) → g ≡ g' → In m (greets g' (take a.node).node x ++ []) → (v : Shown) × (g ≡ Some v) × Greeting m v (take a.node).node x
+      by None q k = absurd k
+      by (Some v) q k = (v, q, greeting m v (take a.node).node x (one (Some v) k))
+
+  no_ask_taking : (g : Option Shown) (x : Taken) (a : Member) (more : Life) → IsRead a x g → (m : Message) → In m (a.sent ++ (does a.me.inc (Takes g) a.node).sent) → is_ask_or_give m.wire ≡ true → In m a.sent ⊎ SentBy a (Takes g ∷ []) more m
+  no_ask_taking g x a more r m h k = elim (sent_taking g x a r m h) [
+    | inl z ↦ inl z
+    | inr z ↦ absurd (false≢true (subst (λ y. is_ask_or_give y.wire ≡ true) z.2.is_it k))
+  ]
+
+  -- with the entry that is left where it is an Add
+  greets_taking : (g : Option Shown) (x : Taken) (a : Member) (y : Entry) (later : Life) (p : ℕ) (b : Bool) → IsRead a x g → x.kept ≡ KeptAt p b → y ≡ entry_of a.setup a.life x.slot p b x.value →
+      (m : Message) (w : Welcome) → In m (a.sent ++ (does a.me.inc (Takes g) a.node).sent) → m.wire ≡ Greet w → In m a.sent ⊎ GreetedBy a (later ++ Took y ∷ []) m w
+  greets_taking g x a y later p b r kept is_y m w h k = elim (sent_taking g x a r m h) [ inl z ↦ inl z | inr z ↦ inr (by z.0 z.1 z.2) ]
+    where
+      left : taken_left a.setup a.life x ≡ Took y
+      left = ap (λ c. slot_left a.setup a.life x.slot x.value c) kept ∙ ap (λ z. Took z) (sym is_y)
+
+      by : (v : Shown) → g ≡ Some v → Greeting m v (take a.node).node x → GreetedBy a (later ++ Took y ∷ []) m w
+      by v q z = record {
+        later = later;
+        earlier = [];
+        add = y;
+        split = refl;
+        joiner = z.joiner;
+        adds = ap (λ u. u.value.what) is_y ∙ z.adds;
+        effect = plain;
+        to = ap (λ u. u.to) z.is_it;
+        up = subst (λ d. is_up (state (d ∷ a.life)) ≡ true) left is_shown.0;
+        node = (take a.node).node;
+        turns = z.turns;
+        welcome = told;
+      }
+        where
+          is_shown : (is_up (state (taken_left a.setup a.life x ∷ a.life)) ≡ true) × (v ≡ shown (view a.setup (taken_left a.setup a.life x ∷ a.life)))
+          is_shown = subst (λ o. IsShown a x o) q r.shown
+
+          in_effect : b ≡ true
+          in_effect = ap takes_effect (sym kept) ∙ z.effect
+
+          plain : y.effect ≡ Plain
+          plain = ap (λ u. u.effect) is_y ∙ (ap (λ c. effect_of a.setup a.life c x.value (open_parts a.life x.value.id.origin) (held (open_parts a.life x.value.id.origin) x.value.what)) in_effect ∙ by_adds)
+            where
+              by_adds : effect_of a.setup a.life true x.value (open_parts a.life x.value.id.origin) (held (open_parts a.life x.value.id.origin) x.value.what) ≡ Plain
+              by_adds = subst (λ u. effect_of a.setup a.life true (record { id = x.value.id; what = u }) (open_parts a.life x.value.id.origin) (held (open_parts a.life x.value.id.origin) u) ≡ Plain) (sym z.adds) refl
+
+          of_greet : Wire → Welcome
+          of_greet (Greet u) = u
+          of_greet u = w
+
+          told : w ≡ welcome_of (take a.node).node z.turns (shown (view a.setup (Took y ∷ a.life)))
+          told = ap of_greet (sym k) ∙ (ap (λ u. of_greet u.wire) z.is_it ∙ ap (λ u. welcome_of (take a.node).node z.turns u) (is_shown.1 ∙ ap (λ d. shown (view a.setup (d ∷ a.life))) left))
+
+  skips_taking : (g : Option Shown) (x : Taken) (a : Member) (more : Life) → IsRead a x g → x.kept ≡ IsSkipped → (m : Message) (w : Welcome) → In m (a.sent ++ (does a.me.inc (Takes g) a.node).sent) → m.wire ≡ Greet w → In m a.sent ⊎ GreetedBy a more m w
+  skips_taking g x a more r kept m w h k = elim (sent_taking g x a r m h) [ inl z ↦ inl z | inr z ↦ absurd (false≢true (ap takes_effect (sym kept) ∙ z.2.effect)) ]
+
+  slot_of_one : (g : Option Shown) (x : Taken) (a : Member) → IsRead a x g → map (λ y. y.slot) (does_all a.me.inc (Takes g ∷ []) a.node).took ≡ x.slot ∷ []
+  slot_of_one g x a r = ap (λ l. map (λ y. y.slot) (l ++ [])) r.took
+
+  reads_acts : (e : Event) (g : Option Shown) (x : Taken) (a : Member) → IsRead a x g → IsActs e a (reads g x a)
+  reads_acts e g x a r = go x.kept refl
+    where
+      made_so : (more : Life) → Each (IsAllowed e a.setup a.me.inc) more a.life → Each (TookRightly a (Takes g ∷ [])) more a.life → x.slot ∷ [] ≡ slots_in more →
+          ((m : Message) (w : Welcome) → In m (a.sent ++ (does a.me.inc (Takes g) a.node).sent) → m.wire ≡ Greet w → In m a.sent ⊎ GreetedBy a more m w) → IsActs e a (record (reads g x a) { life = more ++ a.life })
+      made_so more w t z q = record { acts = Takes g ∷ []; node = refl; sent = λ m h. one_sent m (Takes g) a h; more = more; grown = refl; allowed = w; took = t; slots = slot_of_one g x a r ∙ z; made = λ v h. absurd h; asked = λ m h k. no_ask_taking g x a more r m h k; greeted = q; me = refl; setup = refl }
+
+      rises : (p : ℕ) (b : Bool) → x.kept ≡ KeptAt p b → (c : Bool) → is_arrival_of a.me.inc (entry_of a.setup a.life x.slot p b x.value) ≡ c → IsActs e a (record (reads g x a) { life = elim c [ true ↦ Is Online OwnOnline ∷ Took (entry_of a.setup a.life x.slot p b x.value) ∷ a.life | false ↦ Took (entry_of a.setup a.life x.slot p b x.value) ∷ a.life ] })
+      rises p b q true h =
+          let y : Entry = entry_of a.setup a.life x.slot p b x.value in
+          made_so (Is Online OwnOnline ∷ Took y ∷ []) ((y, a.life, refl, h), (r.ready, tt)) (tt, (one_taken a x g r (Took y) (ap (λ k. slot_left a.setup a.life x.slot x.value k) (sym q)), tt)) refl (greets_taking g x a y (Is Online OwnOnline ∷ []) p b r q refl)
+      rises p b q false h =
+          let y : Entry = entry_of a.setup a.life x.slot p b x.value in
+          made_so (Took y ∷ []) (r.ready, tt) (one_taken a x g r (Took y) (ap (λ k. slot_left a.setup a.life x.slot x.value k) (sym q)), tt) refl (greets_taking g x a y [] p b r q refl)
+
+      go : (k : Kept) → x.kept ≡ k → IsActs e a (record (reads g x a) { life = with_rise a.me.inc (slot_left a.setup a.life x.slot x.value k) a.life })
+      go IsSkipped q = made_so (Skips x.slot x.value ∷ []) (r.ready, tt) (one_taken a x g r (Skips x.slot x.value) (ap (λ k. slot_left a.setup a.life x.slot x.value k) (sym q)), tt) refl (skips_taking g x a (Skips x.slot x.value ∷ []) r q)
+      go (KeptAt p b) q = rises p b q (is_arrival_of a.me.inc (entry_of a.setup a.life x.slot p b x.value)) refl
+
+  pub is_acts : {e : Event} {a b : Member} → Moves e a b → IsActs e a b
+  is_acts (Stays a) = record { acts = []; node = refl; sent = λ m h. inl h; more = []; grown = refl; allowed = tt; took = tt; slots = refl; made = λ v h. absurd h; asked = λ m h k. inl h; greeted = λ m w h k. inl h; me = refl; setup = refl }
+  is_acts {e = e} (Leaves d a w) = record { acts = []; node = refl; sent = λ m h. inl h; more = d ∷ []; grown = refl; allowed = (left_allowed e a d w, tt); took = (left_rightly e a d w, tt); slots = left_no_slot e a d w; made = λ v h. absurd h; asked = λ m h k. inl h; greeted = λ m w h k. inl h; me = refl; setup = refl }
+  is_acts (Sends i x a w z) = record { acts = []; node = refl; sent = λ m h. apart_sent m i x a w h; more = []; grown = refl; allowed = tt; took = tt; slots = refl; made = λ v h. absurd h; asked = λ m h k. sent_beside i x a z m h; greeted = λ m u h k. no_welcome_beside i x a w m u h k; me = refl; setup = refl }
+  is_acts (Acts x a w) = record { acts = x ∷ []; node = refl; sent = λ m h. one_sent m x a h; more = []; grown = refl; allowed = tt; took = tt; slots = none_taken x a (not_taking x w); made = λ v h. none_made x v a.me.inc [] w h; asked = none_asked x a [] (not_taking x w); greeted = none_greeted x a [] (not_taking x w); me = refl; setup = refl }
+  is_acts (Makes v holds a w) = record { acts = Owns v ∷ []; node = refl; sent = λ m h. one_sent m (Owns v) a h; more = Made v holds ∷ []; grown = refl; allowed = (w, tt); took = (tt, tt); slots = none_taken (Owns v) a refl; made = λ u h. made_one v u holds a.me.inc h; asked = none_asked (Owns v) a (Made v holds ∷ []) refl; greeted = none_greeted (Owns v) a (Made v holds ∷ []) refl; me = refl; setup = refl }
+  is_acts {e = e} (Reads g x a w) = reads_acts e g x a w
+  is_acts {e = e} (Then {a = a} {b = b} {c = c} p q) = joins e a b c (is_acts p) (is_acts q)
+
+  pub step_is_acts : (e : Event) (a : Member) → StepIsActs e a
+  step_is_acts e a = let x = steps e a in record { begin = x.begin; begins = x.begins; is_acts = is_acts x.moves }

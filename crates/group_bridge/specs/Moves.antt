@@ -1,24 +1,31 @@
 -- How a member comes to be another one: by acts of its node, by things left in its history, and by messages that aren't its node's.
-use Rattle.std.specs.Prelude.{◌≡◌, ◌⊎◌, ℕ, Bool, true, false, Option, Some, None, List, [], ◌∷◌, ◌++◌, ◌==◌}
+use Rattle.std.specs.Prelude.{◌≡◌, ◌⊎◌, ℕ, Bool, true, false, Option, Some, None, List, [], ◌∷◌, ◌++◌, ◌==◌, map}
 use Rattle.gr_ids.specs.declared.names.Inc.{Inc}
+use Rattle.gr_ids.specs.declared.levels.MemberState.TheVariants.{Online}
+use Rattle.slot_values.specs.declared.value.Joiner.{Joiner}
+use Rattle.slot_values.specs.declared.value.What.TheVariants.{Add}
+use Rattle.slot_values.specs.Log.{Turns}
+use Rattle.group_rules.specs.declared.marks.Effect.TheVariants.{Plain}
+use Rattle.paxos_forms.specs.declared.welcome.Welcome.{Welcome}
+use Rattle.node_rules.specs.Node.{Node}
 use Rattle.slot_values.specs.declared.value.Value.{Value}
 use Rattle.paxos_forms.specs.declared.message.Message.{Message}
 use Rattle.paxos_forms.specs.declared.message.Wire.{Wire}
-use Rattle.paxos_forms.specs.declared.message.Wire.TheVariants.{Offer, Ask, Give}
+use Rattle.paxos_forms.specs.declared.message.Wire.TheVariants.{Offer, Ask, Give, Welcome as Greet}
 use Rattle.txn_forms.specs.declared.body.Body.{Body}
 use Rattle.node_rules.specs.declared.event.PaxosEvent.TheVariants.{Heard}
 use Rattle.node_rules.specs.Lists.{In}
 use Rattle.node_rules.specs.declared.taken.Taken.{Taken}
 use Rattle.node_rules.specs.Taking.{take}
-use Rattle.node_rules.specs.Welcoming.{Shown}
+use Rattle.node_rules.specs.Welcoming.{Shown, welcome_of}
 use Rattle.node_rules.specs.World.{Act, Owns, Campaigns, Ticks, Proposes, Takes, does, does_all, all_made_by}
-use Rattle.group_rules.specs.Events.{Did, Made, Took, Skips, Life, Event, Hears}
+use Rattle.group_rules.specs.Events.{Did, Made, Took, Skips, Is, Life, Setup, Entry, Event, Hears}
 use Rattle.group_rules.specs.Life.{state, is_up, view}
 use Rattle.group_rules.specs.View.{shown}
 use Rattle.group_rules.specs.Member.{Member, push, send, by_node, at_node}
 use Rattle.group_rules.specs.Taking.{takes_slots}
 use Rattle.group_rules.specs.Steps.{step}
-use Rattle.group_bridge.specs.Left.{IsLeft, IsMade, IsSent, taken_left, with_rise}
+use Rattle.group_bridge.specs.Left.{IsLeft, IsMade, IsSent, is_arrival_of, taken_left, with_rise}
 
 -- messages that aren't the node's: an Ask, a Give, and the Add of a joiner
 abbrev pub is_apart : Wire → Bool
@@ -99,20 +106,70 @@ TookRightly a all (Took e) l = TookBy a all (Took e) l
 TookRightly a all (Skips t v) l = TookBy a all (Skips t v) l
 TookRightly a all d l = Unit {0}
 
--- What a list of acts makes of a member: its node is theirs, each message is there before, theirs, or one that isn't the node's. Its history grows: each
--- slot that it has taken is taken by the acts, and each value that they make is made in it.
-pub record IsActs (a b : Member) : Type 0 where
+-- what each thing asks of the history before it
+abbrev pub IsAllowed : Event → Setup → Inc → Did → Life → Type 0
+IsAllowed e s i (Made v holds) l = IsMade s i l v holds
+IsAllowed e s i (Took x) l = takes_slots l ≡ true
+IsAllowed e s i (Skips t v) l = takes_slots l ≡ true
+IsAllowed e s i (Is Online c) l = (x : Entry) × (past : Life) × (l ≡ Took x ∷ past) × (is_arrival_of i x ≡ true)
+IsAllowed e s i d l = IsLeft e s i l d
+
+-- An Ask or a Give was sent after some of this was left, and after some of the acts.
+pub record SentBy (a : Member) (all : List Act) (more : Life) (m : Message) : Type 0 where
+  pub later : Life
+  pub earlier : Life
+  pub split : more ≡ later ++ earlier
+  pub acts : List Act
+  pub rest : List Act
+  pub some : all ≡ acts ++ rest
+  pub from : m.from ≡ (does_all a.me.inc acts a.node).node.me
+  pub sent : IsSent a.setup (earlier ++ a.life) m.to m.wire
+
+-- A Welcome was sent to a joiner where its Add was taken with effect, by a member that is ONLINE. It shows the view after it.
+pub record GreetedBy (a : Member) (more : Life) (m : Message) (w : Welcome) : Type 0 where
+  pub later : Life
+  pub earlier : Life
+  pub add : Entry
+  pub split : more ≡ later ++ Took add ∷ earlier
+  pub joiner : Joiner
+  pub adds : add.value.what ≡ Add joiner
+  pub effect : add.effect ≡ Plain
+  pub to : m.to ≡ joiner.inc
+  pub up : is_up (state (earlier ++ a.life)) ≡ true
+  pub node : Node
+  pub turns : Turns
+  pub welcome : w ≡ welcome_of node turns (shown (view a.setup (Took add ∷ earlier ++ a.life)))
+
+abbrev pub is_ask_or_give : Wire → Bool
+is_ask_or_give (Ask x) = true
+is_ask_or_give (Give x) = true
+is_ask_or_give x = false
+
+-- the slots that were left, the first one first
+abbrev pub slots_in : Life → List ℕ
+slots_in [] = []
+slots_in (Took e ∷ l) = slots_in l ++ e.slot ∷ []
+slots_in (Skips t v ∷ l) = slots_in l ++ t ∷ []
+slots_in (d ∷ l) = slots_in l
+
+-- What a list of acts makes of a member: its node is theirs, and each message is there before, theirs, or one that isn't the node's. Its history grows by
+-- what the history before it allows; each slot in it is taken by the acts, in order, and each value that they make is made in it.
+pub record IsActs (e : Event) (a b : Member) : Type 0 where
   pub acts : List Act
   pub node : b.node ≡ (does_all a.me.inc acts a.node).node
   pub sent : (m : Message) → In m b.sent → In m a.sent ⊎ (In m (does_all a.me.inc acts a.node).sent ⊎ (is_apart m.wire ≡ true))
   pub more : Life
   pub grown : b.life ≡ more ++ a.life
+  pub allowed : Each (IsAllowed e a.setup a.me.inc) more a.life
   pub took : Each (TookRightly a acts) more a.life
+  pub slots : map (λ x. x.slot) (does_all a.me.inc acts a.node).took ≡ slots_in more
   pub made : (v : Value) → In v (all_made_by a.me.inc acts) → (holds : Option Body) × In (Made v holds) more
+  pub asked : (m : Message) → In m b.sent → is_ask_or_give m.wire ≡ true → In m a.sent ⊎ SentBy a acts more m
+  pub greeted : (m : Message) (w : Welcome) → In m b.sent → m.wire ≡ Greet w → In m a.sent ⊎ GreetedBy a more m w
   pub me : b.me ≡ a.me
   pub setup : b.setup ≡ a.setup
 
 pub record StepIsActs (e : Event) (a : Member) : Type 0 where
   pub begin : Member
   pub begins : Begins e a begin
-  pub is_acts : IsActs begin (step e a)
+  pub is_acts : IsActs e begin (step e a)

@@ -1,4 +1,4 @@
--- No row sends a Welcome.
+-- No row sends a Welcome, an Ask or a Give.
 use Rattle.std.proofs.Common.{◌≡◌, inl, inr, ℕ, zero, suc, ◌-◌, ◌^◌, Bool, false, cond, ◌||◌, Option, Some, None, List, [], ◌∷◌, ◌++◌, ltb, eqb, refl, sym, subst}
 use Rattle.std.specs.Prelude.{is_some, fold, map, flat_map, filter, ◌&&◌, not, nat_le, nat_lt, ◌+◌}
 use Rattle.std.proofs.lemmas.Bool.{false≢true, cond_both}
@@ -19,12 +19,12 @@ use Rattle.node_rules.specs.Voting.{gone_to, votes, promises, hear_prepare, hear
 use Rattle.node_rules.specs.Welcoming.{is_in_order, is_for, welcomed, hear_welcome}
 use Rattle.node_rules.specs.World.{Owns, Campaigns, Ticks, Proposes, Takes}
 use Rattle.slot_values.specs.Log.{Turns}
-use Rattle.order_laws.specs.Laws.{is_greet, OnlyTakingGreets, HearingGreetsNobody, TakingIsSilent}
+use Rattle.order_laws.specs.Laws.{is_joining, OnlyTakingGreets, HearingGreetsNobody, TakingIsSilent}
 use Rattle.order_laws.specs.Names.{Inc, Ballot, Value, Vote, Message, Wire, Prepare, Promise, Accept, Accepted, Learn, Offer, Greet, Ask, Give, Alive, Gone, Welcome, Own, Campaign, Tick, Propose}
 use Rattle.order_laws.proofs.Lists.{in_append, in_map}
 
 abbrev NoneGreets : List Message → Type 0
-NoneGreets ms = (m : Message) → In m ms → is_greet m.wire ≡ false
+NoneGreets ms = (m : Message) → In m ms → is_joining m.wire ≡ false
 
 none_append : (xs ys : List Message) → NoneGreets xs → NoneGreets ys → NoneGreets (xs ++ ys)
 none_append xs ys p q m h = elim (in_append m xs ys h) [ inl z ↦ p m z | inr z ↦ q m z ]
@@ -35,16 +35,16 @@ none_also e f p q = none_append e.sent (f e.node).sent p q
 none_if : (b : Bool) (x y : Effect) → NoneGreets x.sent → NoneGreets y.sent → NoneGreets (cond b x y).sent
 none_if b x y p q = cond_both b x y (λ (e : Effect). NoneGreets e.sent) (λ h. p) (λ h. q)
 
-none_one : (n : Node) (i : Inc) (x : Wire) → is_greet x ≡ false → NoneGreets (message n i x ∷ [])
-none_one n i x h m (inl e) = subst (λ (z : Message). is_greet z.wire ≡ false) e h
+none_one : (n : Node) (i : Inc) (x : Wire) → is_joining x ≡ false → NoneGreets (message n i x ∷ [])
+none_one n i x h m (inl e) = subst (λ (z : Message). is_joining z.wire ≡ false) e h
 none_one n i x h m (inr z) = absurd z
 
 -- the same message to each of these
-none_each : (n : Node) (is : List Inc) (x : Wire) → is_greet x ≡ false → NoneGreets (map (λ i. message n i x) is)
-none_each n is x h m q = let r = in_map (λ i. message n i x) is m q in subst (λ (z : Message). is_greet z.wire ≡ false) r.2 h
+none_each : (n : Node) (is : List Inc) (x : Wire) → is_joining x ≡ false → NoneGreets (map (λ i. message n i x) is)
+none_each n is x h m q = let r = in_map (λ i. message n i x) is m q in subst (λ (z : Message). is_joining z.wire ≡ false) r.2 h
 
 -- the same message to the others of these
-none_others : (n : Node) (is : List Inc) (x : Wire) → is_greet x ≡ false → NoneGreets (to_others n is x)
+none_others : (n : Node) (is : List Inc) (x : Wire) → is_joining x ≡ false → NoneGreets (to_others n is x)
 none_others n is x h = none_each n (others n.me is) x h
 
 none_empty : NoneGreets []
@@ -115,7 +115,7 @@ none_promise j b xs n = go n.leader
 
 none_out : (n : Node) (vs : List Value) → NoneGreets (offers_out n vs)
 none_out n vs = cond_both (eqb n.acceptor.promise.round 0 || inc_eq n.acceptor.promise.inc n.me) [] (map (λ v. message n n.acceptor.promise.inc (Offer v)) vs) (λ ms. NoneGreets ms) (λ h. none_empty)
-    (λ h m q. let r = in_map (λ v. message n n.acceptor.promise.inc (Offer v)) vs m q in subst (λ (z : Message). is_greet z.wire ≡ false) r.2 refl)
+    (λ h m q. let r = in_map (λ v. message n n.acceptor.promise.inc (Offer v)) vs m q in subst (λ (z : Message). is_joining z.wire ≡ false) r.2 refl)
 
 none_offers : (vs : List Value) (n : Node) (o : Option Leader) → NoneGreets (offers vs n o).sent
 none_offers vs n None = none_out n vs
@@ -142,7 +142,7 @@ unfolding hear_alive
 none_alive j k n = none_if (has_inc (members_by n.turns) j) (sends (record n { told = tells n.told j k }) (learns_from n j k)) (sends n (gone_to n j)) learns (none_gone n j)
   where
     learns : NoneGreets (learns_from n j k)
-    learns m q = let r = in_map (λ (e : Entry). message n j (Learn e.slot e.value)) (filter (λ e. nat_le k e.slot && (nat_lt e.slot (k + 10) && nat_lt e.slot n.learner.next)) n.learner.decided) m q in subst (λ (z : Message). is_greet z.wire ≡ false) r.2 refl
+    learns m q = let r = in_map (λ (e : Entry). message n j (Learn e.slot e.value)) (filter (λ e. nat_le k e.slot && (nat_lt e.slot (k + 10) && nat_lt e.slot n.learner.next)) n.learner.decided) m q in subst (λ (z : Message). is_joining z.wire ≡ false) r.2 refl
 
 none_again : (n : Node) (l : Leader) (ps : List Proposal) → NoneGreets (flat_map (accepts_again n l) ps)
 none_again n l [] = none_empty

@@ -8,7 +8,7 @@ use Rattle.node_rules.specs.Node.{Node}
 use Rattle.node_rules.specs.Step.{node_step}
 use Rattle.node_rules.specs.Taking.{take}
 use Rattle.node_rules.specs.World.{World, Event, Took, Act, Takes, Arranges, does, run}
-use Rattle.order_laws.specs.Names.{Inc, Value, Noop, Add, Joiner, Message, Wire, Greet, Welcome, WelcomeMember, Heard}
+use Rattle.order_laws.specs.Names.{Inc, Value, Noop, Add, Joiner, Message, Wire, Greet, Ask, Give, Welcome, WelcomeMember, Heard}
 
 -- It holds after every list of events, in whatever order the messages of a step go on the wire.
 abbrev pub InEveryRun : (Group → World → Type 0) → Type 0
@@ -85,17 +85,20 @@ OnlyTakingTakes = (i : Inc) (x : Act) (n : Node) → is_taking x ≡ false → (
 abbrev pub HearingTakesNone : Type 0
 HearingTakesNone = (m : Message) (n : Node) → (node_step (Heard m) n).took ≡ []
 
-abbrev pub is_greet : Wire → Bool
-is_greet (Greet x) = true
-is_greet x = false
+-- the messages by which one joins: a Welcome, an Ask, a Give
+abbrev pub is_joining : Wire → Bool
+is_joining (Greet x) = true
+is_joining (Ask x) = true
+is_joining (Give x) = true
+is_joining x = false
 
--- No act but the taking of a slot sends a Welcome.
+-- No act of a node sends an Ask or a Give, and none but the taking of a slot a Welcome.
 abbrev pub OnlyTakingGreets : Type 0
-OnlyTakingGreets = (i : Inc) (x : Act) (n : Node) (m : Message) → is_taking x ≡ false → In m (does i x n).sent → is_greet m.wire ≡ false
+OnlyTakingGreets = (i : Inc) (x : Act) (n : Node) (m : Message) → is_taking x ≡ false → In m (does i x n).sent → is_joining m.wire ≡ false
 
 -- Nor does one that hears a message.
 abbrev pub HearingGreetsNobody : Type 0
-HearingGreetsNobody = (h : Message) (n : Node) (m : Message) → In m (node_step (Heard h) n).sent → is_greet m.wire ≡ false
+HearingGreetsNobody = (h : Message) (n : Node) (m : Message) → In m (node_step (Heard h) n).sent → is_joining m.wire ≡ false
 
 -- The taking alone sends nothing but the Welcome that it is asked to send.
 abbrev pub TakingIsSilent : Type 0

@@ -38,7 +38,7 @@ pub fn only_taking_takes()
     ensures messages { HearingTakesNone }
 {}
 
-/// Welcomes are sent by the act of taking a slot alone, which sends nothing else.
+/// Welcomes are sent by the act of taking a slot alone, which sends nothing else; a node sends no Ask and no Give.
 pub fn only_taking_greets()
     ensures acts { OnlyTakingGreets }
     ensures messages { HearingGreetsNobody }
