@@ -1,5 +1,5 @@
 -- Each step of a member is made of acts of its node, of things left in its history as the rules ask, and of messages that aren't its node's.
-use Rattle.std.proofs.Common.{eq-eqb, eqb, leb, append_assoc, ◌≡◌, ◌⊎◌, inl, inr, ℕ, zero, suc, ◌+◌, ◌-◌, ◌/◌, ◌≤◌, ◌<◌, Bool, true, false, Option, Some, None, List, [], ◌∷◌, ◌++◌, refl, sym, ap, subst, ◌∙◌, arith, cond}
+use Rattle.std.proofs.Common.{eq-eqb, eqb, append_assoc, ◌≡◌, ◌⊎◌, inl, inr, ℕ, zero, suc, ◌+◌, ◌-◌, ◌/◌, ◌≤◌, ◌<◌, Bool, true, false, Option, Some, None, List, [], ◌∷◌, ◌++◌, refl, sym, ap, subst, ◌∙◌, arith}
 use Rattle.std.specs.Prelude.{length, reverse, filter, not, ◌&&◌, ◌==◌, nat_le, take, drop, if◌then◌else◌, is_some}
 use Rattle.std.proofs.lemmas.Bool.{false≢true, and_from, and_parts, cases_Bool, eqb-true, leb-true, leb-false, not-true}
 use Rattle.std.proofs.lemmas.List.{reverse-append}
@@ -50,7 +50,7 @@ use Rattle.group_rules.specs.Sessions.{Phase, Free, Holding, Active, Asking, pha
 use Rattle.group_rules.specs.Keys.{killed, was_left, holder}
 use Rattle.group_rules.specs.Rows.{row_then}
 use Rattle.group_rules.specs.Holds.{has_sync, sync_told}
-use Rattle.group_rules.specs.Queue.{pending, at_place, queue, is_own, is_done}
+use Rattle.group_rules.specs.Queue.{pending, at_place, queue, is_own}
 use Rattle.group_rules.specs.Commit.{may_commit, owes_prepared}
 use Rattle.group_rules.specs.Parts.{whole_bytes, part_bytes, cut, cut_from}
 use Rattle.group_rules.specs.Calls.{begin, send_sync, change_row, unless_locked, statement, own_part, ask_commit, send_parts, send_txn, commit_bytes, commit_changes, in_transaction, without_transaction, by_phase, unless_killed, call, misfit, state_then, read_only, is_read_only, txn_of}
@@ -61,7 +61,7 @@ use Rattle.group_rules.specs.Recovery.{is_ask_due, is_awaited, is_possible, add_
 use Rattle.group_rules.specs.Points.{asks_this, commit_all, prepare_all, begin_all, arrive, point, commit_one, answer_own, answer_commit, prepare_one, begin_one, begin_by, unless_pending}
 use Rattle.group_rules.specs.Taking.{answer_conflict, on_conflict, propose}
 use Rattle.group_rules.specs.Steps.{hear_add, done_of, time_out, time_out_by, expel_one, campaign_if_due, look_after, tell_at, member_tick, tick_on, tick_once, add_of, reply_ballot, reply_sent, if_online, leave, operate, held_mark}
-use Rattle.group_bridge.specs.Left.{IsPast, IsOpen, txn_then, MadeParts, HoldsRightly, with_all, AreOf, IsCommitted, IsAnswered, IsEntered, IsRestored}
+use Rattle.group_bridge.specs.Left.{IsPast, IsOpen, txn_then, MadeParts, HoldsRightly, with_all, AreOf, IsAnswered, IsEntered, IsRestored}
 use Rattle.group_bridge.specs.Moves.{Moves, Stays, Leaves, Sends, Acts, Makes, Then}
 use Rattle.group_bridge.proofs.Lists.{in_left, in_right, in_either}
 

@@ -1,6 +1,6 @@
 -- What follows from moves: the node comes from a list of acts, the messages are theirs or aren't the node's, the history grows.
 use Rattle.std.proofs.Common.{append_assoc, append-nil, ◌≡◌, ◌⊎◌, inl, inr, Bool, true, false, Option, Some, None, List, [], ◌∷◌, ◌++◌, refl, sym, ◌∙◌, ap, subst}
-use Rattle.std.specs.Prelude.{ℕ, if◌then◌else◌, ◌&&◌, map, flat_map, not}
+use Rattle.std.specs.Prelude.{ℕ, if◌then◌else◌, map, flat_map}
 use Rattle.std.proofs.lemmas.Bool.{false≢true}
 use Rattle.gr_ids.specs.Names.{inc_eq}
 use Rattle.gr_ids.specs.declared.names.Inc.{Inc}
@@ -26,13 +26,13 @@ use Rattle.slot_values.specs.Log.{Turns}
 use Rattle.paxos_forms.specs.declared.message.Wire.TheVariants.{Prepare, Promise, Accept, Accepted, Learn, Offer, Welcome as Greet, Ask, Give, Alive, Gone}
 use Rattle.paxos_forms.specs.declared.welcome.Welcome.{Welcome}
 use Rattle.group_rules.specs.declared.marks.Effect.TheVariants.{Plain}
-use Rattle.group_rules.specs.Events.{Event, Did, Founds, Starts, Came, Made, Took, Skips, Done, Committed, Is, Gave, Answered, Begun, Changed, Replied, Called, AsksCommit, Ends, Enters, Restores, AskFails, Life, Setup, Entry}
+use Rattle.group_rules.specs.Events.{Event, Did, Founds, Starts, Came, Made, Took, Skips, Done, Committed, Is, Gave, Answered, Begun, Changed, Replied, Called, AsksCommit, Ends, Enters, Restores, AskFails, Life, Entry}
 use Rattle.group_rules.specs.Life.{state, is_up, view}
-use Rattle.group_rules.specs.View.{shown, effect_in}
+use Rattle.group_rules.specs.View.{shown}
 use Rattle.group_rules.specs.Parts.{open_parts, held}
 use Rattle.group_rules.specs.Member.{Member}
-use Rattle.group_rules.specs.Taking.{effect_of, entry_of, takes_slots}
-use Rattle.group_bridge.specs.Left.{IsLeft, IsState, IsSent, slot_left, taken_left, is_arrival_of, with_rise}
+use Rattle.group_rules.specs.Taking.{effect_of, entry_of}
+use Rattle.group_bridge.specs.Left.{IsLeft, IsSent, slot_left, taken_left, is_arrival_of, with_rise}
 use Rattle.group_bridge.specs.Moves.{is_apart, is_inner, is_ask_or_give, IsShown, IsRead, reads, Moves, Stays, Leaves, Sends, Acts, Makes, Reads, Then, Each, IsAllowed, TookBy, TookRightly, SentBy, GreetedBy, slots_in, IsActs, StepIsActs}
 use Rattle.group_bridge.proofs.Lists.{in_left, in_right, in_either}
 use Rattle.group_bridge.proofs.Taken.{steps}

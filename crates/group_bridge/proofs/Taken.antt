@@ -3,10 +3,8 @@ use Rattle.std.proofs.Common.{append_assoc, ◌≡◌, inl, inr, ℕ, zero, suc,
 use Rattle.std.proofs.lemmas.Bool.{false≢true, and_parts}
 use Rattle.std.specs.Prelude.{◌^◌, ◌==◌, ◌&&◌, not, flat_map, if◌then◌else◌}
 use Rattle.gr_ids.specs.Names.{inc_eq}
-use Rattle.gr_ids.specs.declared.names.Inc.{Inc}
 use Rattle.gr_ids.specs.declared.levels.MemberState.TheVariants.{Online}
 use Rattle.gtid_sets.specs.Sets.{Gtids}
-use Rattle.group_rules.specs.declared.requests.Request.{Request}
 use Rattle.slot_values.specs.declared.value.Joiner.{Joiner}
 use Rattle.slot_values.specs.declared.value.Value.{Value}
 use Rattle.slot_values.specs.declared.value.What.{What}
@@ -42,8 +40,8 @@ use Rattle.group_rules.specs.Points.{point}
 use Rattle.group_rules.specs.Taking.{entry_of, effect_of, on_plain, causes, take_kept, take_slot, next_slot, takes_slots, take_slots, propose, rounds, settle_slots}
 use Rattle.group_rules.specs.Steps.{hear_add, hear_offer, hear_wire, hear_in_error, act_alive, act_in_error, act, held_mark, step}
 use Rattle.group_bridge.specs.Left.{slot_left, taken_left, is_arrival_of, with_rise}
-use Rattle.group_bridge.specs.Moves.{is_apart, IsShown, Moves, Stays, Leaves, Reads, Then, cleared, Begins, Steps}
-use Rattle.group_bridge.proofs.Moved.{CalledLast, HeardLast, moves_fall, moves_on_conflict, moves_point, moves_propose, moves_hear_add, moves_hear_welcome, moves_check_ask, moves_ask, moves_give, moves_tick_once, moves_work, moves_call, moves_operate, moves_held}
+use Rattle.group_bridge.specs.Moves.{is_apart, IsShown, Moves, Stays, Leaves, Reads, Then, cleared, Steps}
+use Rattle.group_bridge.proofs.Moved.{moves_fall, moves_on_conflict, moves_point, moves_propose, moves_hear_add, moves_hear_welcome, moves_check_ask, moves_ask, moves_give, moves_tick_once, moves_work, moves_call, moves_operate, moves_held}
 
 -- ---- lists
 

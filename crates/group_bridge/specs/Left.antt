@@ -41,7 +41,7 @@ use Rattle.group_rules.specs.Holds.{is_released, sync_told}
 use Rattle.group_rules.specs.Calls.{state_then, items_of, is_after_call}
 use Rattle.group_rules.specs.Parts.{whole_bytes, cut}
 use Rattle.group_rules.specs.Recovery.{add_place, certs_given, pending_ask, is_possible, is_add, give_of}
-use Rattle.group_rules.specs.Taking.{entry_of, takes_slots}
+use Rattle.group_rules.specs.Taking.{entry_of}
 
 -- what had happened to an incarnation at some time
 abbrev pub IsPast : Life → Life → Type 0

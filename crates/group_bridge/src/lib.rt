@@ -1,12 +1,12 @@
 //! How the rules of a member stand on those of a node: each step of a member is an event of its node followed by acts of it.
 #![tactic(auto)]
 
-use order_laws::{only_taking_greets, only_taking_takes};
-
 ghost use Rattle.group_rules.specs.Events.{Event};
 ghost use Rattle.group_rules.specs.Member.{Member};
 ghost use Rattle.group_rules.specs.Steps.{step};
 ghost use Rattle.group_bridge.specs.Moves.{Steps, StepIsActs};
+
+use order_laws::{only_taking_greets, only_taking_takes};
 
 /// Each step of a member is a message heard, if one came that its node hears, and then one small thing after another: acts of its node, messages
 /// that aren't the node's, and things left in its history, each of which the history before it allows.
