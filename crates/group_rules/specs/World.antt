@@ -200,7 +200,7 @@ abbrev pub take_message : Option Message → World → World
 take_message None w = nothing_happens w
 take_message (Some m) w = elim (runs w m.to) [ true ↦ event_at (Hears m) (server_at w m.to.server) w | false ↦ nothing_happens w ]
 
--- What may happen next. An event at a server is one of its incarnation that runs.
+-- What may happen next. An event at a server is one of its incarnation that runs; before the founding servers are declared, and nothing else happens.
 pub data Move : Type 0 where
   Declares : (number : ℕ) (uuid version : List ℕ) (weight : ℕ) → Move
   Founds : (setup : Setup) → Move
@@ -221,7 +221,7 @@ move (Declares n u v g) w = elim (is_taken n u w) [ true ↦ nothing_happens w |
 move (Founds t) w = elim (is_some w.setup || is_group_taken t.limits.group w) [ true ↦ nothing_happens w | false ↦ found_all t t.founders (nothing_happens (record w { setup = Some t })) ]
 move (Starts n via) w = start_by w.setup (server_at w n) (member_at w via) w
 move (Stops n) w = stop (server_at w n) w
-move (WritesRow n i r) w = write_by i r (server_at w n) w
+move (WritesRow n i r) w = elim (is_some w.setup) [ true ↦ write_by i r (server_at w n) w | false ↦ nothing_happens w ]
 move (Takes k) w = take_message (kth w.sent k) w
 move (Happens n (Hears m)) w = nothing_happens w
 move (Happens n e) w = event_at e (server_at w n) w

@@ -1,0 +1,8 @@
+mod Pasts
+mod Servers
+mod Nodes
+mod Inv
+mod Stepped
+mod Others
+mod Founding
+mod Moves
