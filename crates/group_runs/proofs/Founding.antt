@@ -13,7 +13,7 @@ use Rattle.group_rules.specs.Member.{Member}
 use Rattle.group_rules.specs.Steps.{group_of, found}
 use Rattle.group_rules.specs.World.{World, Server, Past, Does, life_in, nothing_stored, server_at, put_server, dids, found_at, found_all}
 use Rattle.group_bridge.specs.Moves.{slots_in}
-use Rattle.group_runs.specs.Runs.{Apart, IsSetup, is_founder, running_in, stored_in, AllDid, IsDone, TookIn, TookThen, OfSlots}
+use Rattle.group_runs.specs.Runs.{Apart, IsSetup, is_founder, running_in, stored_in, AllDid, IsDone, TookIn, TookThen, OfSlots, HeardIn}
 use Rattle.group_runs.proofs.Pasts.{inc_same, inc_is, life_of_dids, life_of_others, running_of_others, did_map}
 use Rattle.group_runs.proofs.Servers.{put_same, put_other, put_cases, number_of}
 use Rattle.group_runs.proofs.Nodes.{no_event}
@@ -79,6 +79,7 @@ record Begun (t : Setup) (rest : List Joiner) (w : World) : Type 0 where
   sent : w.sent ≡ []
   slots : (i : Inc) → slots_in (life_in w.past i) ≡ []
   none : AllDid (OfSlots Never) w.past
+  heard : AllDid (HeardIn (nodes.start (group_of t))) w.past
   done : AllDid (IsDone t) w.past
 
 module _ (t : Setup) (good : IsSetup t) where
@@ -92,7 +93,7 @@ module _ (t : Setup) (good : IsSetup t) where
       | inl c ↦ subst (λ d. IsRunning t next v d b) c.1 (subst (λ d. IsRunning t next v y d) (some_is (subst (λ d. d.running ≡ Some b) (sym c.1) r)) run_here)
       | inr c ↦ (let o = p.running k z b c.1 r in
         let apart : inc_eq j.inc b.me.inc ≡ false = of_server k z b c.1 r c.0 in
-        record { setup = o.setup; server = o.server; start = o.start; node = o.node; life = life_of_others j.inc b.me.inc a.life w.past apart ∙ o.life })
+        record { setup = o.setup; server = o.server; start = o.start; node = o.node; life = life_of_others j.inc b.me.inc a.life w.past apart ∙ o.life; begun = o.begun })
     ];
     runs = λ k z q. elim (put_cases y w k z q) [
       | inl c ↦ subst (λ d. running_in past k ≡ inc_of d.running) c.1 (subst (λ d. running_in past d ≡ Some j.inc) c.0 run_now)
@@ -123,6 +124,7 @@ module _ (t : Setup) (good : IsSetup t) where
       | inr q ↦ ap slots_in (life_of_others j.inc i a.life w.past q) ∙ p.slots i
     ];
     none = (tt, (tt, p.none));
+    heard = (tt, (tt, p.heard));
     done = (inl (ap (λ b. elim b [ true ↦ Some j.inc | false ↦ running_in w.past j.inc.server ]) (eq-eqb j.inc.server j.inc.server refl), inl (ap (λ b. elim b [ true ↦ Founds ∷ life_in w.past j.inc | false ↦ life_in w.past j.inc ]) (inc_same j.inc) ∙ ap (λ l. Founds ∷ l) fresh, refl)), (((p.idle j (inl refl)).0, fresh, in_found j t.founders (p.all j (inl refl))), p.done));
   }
     where
@@ -175,7 +177,7 @@ module _ (t : Setup) (good : IsSetup t) where
       begun = (y, put_same y w, omega (arith, good.first j (p.all j (inl refl))))
 
       run_here : IsRunning t next v y a
-      run_here = record { setup = refl; server = refl; start = good.first j (p.all j (inl refl)); node = ap (λ b. if b then Some (founder (group_of t) j.inc) else None) (in_found j t.founders (p.all j (inl refl))); life = life_here }
+      run_here = record { setup = refl; server = refl; start = good.first j (p.all j (inl refl)); node = ap (λ b. if b then Some (founder (group_of t) j.inc) else None) (in_found j t.founders (p.all j (inl refl))); life = life_here; begun = omega arith }
 
       of_server : (k : ℕ) (x : Server) (b : Member) → server_at w k ≡ Some x → x.running ≡ Some b → (j.inc.server == k) ≡ false → inc_eq j.inc b.me.inc ≡ false
       of_server k x b q r z = elim (cases_Bool (inc_eq j.inc b.me.inc)) [
@@ -208,6 +210,7 @@ module _ (t : Setup) (good : IsSetup t) where
     unstarted = λ j h s q. (b.idle j.inc.server s q).2;
     sent = b.sent;
     slots = λ i. ap slots_in (b.lives i);
+    heard = did_map Never (HeardIn (nodes.start (group_of t))) (λ p i d h. absurd h) w.past b.none;
     none = did_map Never (OfSlots Never) (λ p i d h. absurd h) w.past b.none;
     done = did_map Never (IsDone t) (λ p i d h. absurd h) w.past b.none;
   }
@@ -223,6 +226,7 @@ module _ (t : Setup) (good : IsSetup t) where
     founders = founders;
     known = λ i. elim (cases_Bool (is_founder t i)) [ inl h ↦ inr (founders i h) | inr h ↦ inl (ap (λ b. if b then Some (founder (group_of t) i) else None) h) ];
     lives = p.lives;
+    heard = p.heard;
     sent = λ m h. absurd (subst (λ l. In m l) p.sent h);
     told = λ m h. absurd (subst (λ l. In m l) p.sent h);
     took = did_map (OfSlots Never) (OfSlots (TookIn t (nodes.start (group_of t)))) (slots_map Never (TookIn t (nodes.start (group_of t))) (λ q i d h. absurd h)) w.past p.none;

@@ -1,5 +1,5 @@
 -- What holds of the world after every move, beside a run of the world of nodes.
-use Rattle.std.specs.Prelude.{◌≡◌, ◌⊎◌, ◌≤◌, ℕ, Bool, true, false, Option, Some, None, List, [], ◌∷◌}
+use Rattle.std.specs.Prelude.{◌≡◌, ◌⊎◌, ◌≤◌, ◌<◌, length, ℕ, Bool, true, false, Option, Some, None, List, [], ◌∷◌}
 use Rattle.gr_ids.specs.declared.names.Inc.{Inc}
 use Rattle.slot_values.specs.declared.value.Value.{Value}
 use Rattle.paxos_forms.specs.declared.message.Message.{Message}
@@ -11,7 +11,7 @@ use Rattle.group_rules.specs.Member.{Member}
 use Rattle.group_rules.specs.World.{World, Server, Past, server_at, life_in, nothing_stored}
 use Rattle.group_rules.specs.Legal.{WasMade}
 use Rattle.group_bridge.specs.Moves.{is_apart, slots_in}
-use Rattle.group_runs.specs.Runs.{is_founder, running_in, stored_in, WasSent, AllDid, IsDone, IsNodeRun, TookIn, TookThen, OfSlots}
+use Rattle.group_runs.specs.Runs.{is_founder, running_in, stored_in, WasSent, AllDid, IsDone, IsNodeRun, TookIn, TookThen, OfSlots, HeardIn}
 
 abbrev pub inc_of : Option Member → Option Inc
 inc_of None = None
@@ -24,6 +24,7 @@ pub record IsRunning (t : Setup) (w : World) (v : nodes.World) (s : Server) (a :
   pub start : a.me.inc.start ≡ s.starts
   pub node : v.at a.me.inc ≡ Some a.node
   pub life : life_in w.past a.me.inc ≡ a.life
+  pub begun : 1 < length a.life
 
 -- the incarnation was started at its server
 abbrev pub WasStarted : World → Inc → Type 0
@@ -43,6 +44,7 @@ pub record Inv (t : Setup) (w : World) (v : nodes.World) : Type 0 where
   pub told : (m : Message) → In m w.sent → WasSent t w.past m
   pub took : AllDid (OfSlots (TookIn t v)) w.past
   pub mids : AllDid (OfSlots (TookThen t)) w.past
+  pub heard : AllDid (HeardIn v) w.past
   pub made : (u : Value) → In u v.made → (u.id.number ≡ 0) ⊎ WasMade w.past u
   pub slots : (i : Inc) → slots_by i v.took ≡ slots_in (life_in w.past i)
   pub done : AllDid (IsDone t) w.past

@@ -23,12 +23,12 @@ use Rattle.group_rules.specs.Steps.{group_of, add_of, start}
 use Rattle.group_rules.specs.World.{World, Server, Past, Does, Writes, Halts, life_in, nothing_stored, server_at, is_declared, joiner_of, put_server, happens, nothing_happens, dids, declare, started, stop, stored_by, written}
 use Rattle.group_rules.specs.Legal.{IsPast, WasMade}
 use Rattle.group_bridge.specs.Moves.{is_apart, slots_in}
-use Rattle.group_runs.specs.Runs.{as_sent, is_founder, running_in, stored_after, stored_in, WasSent, AllDid, IsDone, TookIn, OfSlots}
-use Rattle.group_runs.proofs.Pasts.{inc_same, inc_is, in_left, in_right, in_either, life_of_dids, life_of_others, running_of_dids, running_of_others, made_grows}
+use Rattle.group_runs.specs.Runs.{as_sent, is_founder, running_in, stored_after, stored_in, WasSent, AllDid, IsDone, TookIn, OfSlots, HeardIn}
+use Rattle.group_runs.proofs.Pasts.{inc_same, inc_is, in_left, in_right, in_either, life_of_dids, life_of_others, running_of_dids, running_of_others, made_grows, did_map}
 use Rattle.group_runs.proofs.Servers.{at_number, put_same, put_other, put_cases, number_of}
 use Rattle.group_runs.proofs.Nodes.{one_more, put_here, put_there, started_on}
 use Rattle.group_runs.proofs.Inv.{inc_of, IsRunning, WasStarted, Inv}
-use Rattle.group_runs.proofs.Stepped.{sent_grows, stored_of_dids}
+use Rattle.group_runs.proofs.Stepped.{sent_grows, stored_of_dids, heard_grows}
 
 some_is : {A : Type 0} {x y : A} → Some x ≡ Some y → x ≡ y
 some_is {x = x} {y = y} e = cc
@@ -64,7 +64,7 @@ declared_keeps t w v inv n u z g h = record {
   ended = inv.ended;
   running = λ k x a q r. elim (put_cases y w k x q) [
     | inl c ↦ absurd (none_runs (subst (λ d. d.running ≡ Some a) (sym c.1) r))
-    | inr c ↦ (let o = inv.running k x a c.1 r in record { setup = o.setup; server = o.server; start = o.start; node = o.node; life = o.life })
+    | inr c ↦ (let o = inv.running k x a c.1 r in record { setup = o.setup; server = o.server; start = o.start; node = o.node; life = o.life; begun = o.begun })
   ];
   runs = λ k x q. elim (put_cases y w k x q) [
     | inl c ↦ subst (λ d. running_in w.past k ≡ inc_of d.running) c.1 (subst (λ d. running_in w.past d ≡ None) c.0 (inv.unknown n new).0)
@@ -85,6 +85,7 @@ declared_keeps t w v inv n u z g h = record {
   told = inv.told;
   took = inv.took;
   mids = inv.mids;
+  heard = inv.heard;
   made = inv.made;
   slots = inv.slots;
   done = inv.done;
@@ -108,7 +109,7 @@ pub nothing_keeps : (t : Setup) (w : World) (v : nodes.World) → Inv t w v → 
 nothing_keeps t w v inv = record {
   run = inv.run;
   ended = inv.ended;
-  running = λ k x a q r. let o = inv.running k x a q r in record { setup = o.setup; server = o.server; start = o.start; node = o.node; life = o.life };
+  running = λ k x a q r. let o = inv.running k x a q r in record { setup = o.setup; server = o.server; start = o.start; node = o.node; life = o.life; begun = o.begun };
   runs = inv.runs;
   stored = inv.stored;
   unknown = inv.unknown;
@@ -119,6 +120,7 @@ nothing_keeps t w v inv = record {
   told = inv.told;
   took = inv.took;
   mids = inv.mids;
+  heard = inv.heard;
   made = inv.made;
   slots = inv.slots;
   done = inv.done;
@@ -132,7 +134,7 @@ stopped_keeps t w v inv n s at_it = record {
   ended = inv.ended;
   running = λ k x a q r. elim (put_cases y w k x q) [
     | inl c ↦ absurd (some_none a (sym (subst (λ d. d.running ≡ Some a) (sym c.1) r)))
-    | inr c ↦ (let o = inv.running k x a c.1 r in record { setup = o.setup; server = o.server; start = o.start; node = o.node; life = o.life })
+    | inr c ↦ (let o = inv.running k x a c.1 r in record { setup = o.setup; server = o.server; start = o.start; node = o.node; life = o.life; begun = o.begun })
   ];
   runs = λ k x q. elim (put_cases y w k x q) [
     | inl c ↦ subst (λ d. running_in past k ≡ inc_of d.running) c.1 (ap (λ b. elim b [ true ↦ None | false ↦ running_in w.past k ]) (eq-eqb s.number k c.0))
@@ -153,6 +155,7 @@ stopped_keeps t w v inv n s at_it = record {
   told = λ m h. sent_grows t (Halts s.number ∷ []) w.past m (inv.told m h);
   took = inv.took;
   mids = inv.mids;
+  heard = inv.heard;
   made = λ u h. elim (inv.made u h) [ inl z ↦ inl z | inr z ↦ inr (made_grows (Halts s.number ∷ []) w.past u z) ];
   slots = inv.slots;
   done = inv.done;
@@ -190,7 +193,7 @@ written_keeps t w v inv n s at_it idle item row = record {
   ended = inv.ended;
   running = λ k z a q r. elim (put_cases y w k z q) [
     | inl c ↦ absurd (some_none a (sym (subst (λ d. d.running ≡ Some a) (sym c.1) r) ∙ idle))
-    | inr c ↦ (let o = inv.running k z a c.1 r in record { setup = o.setup; server = o.server; start = o.start; node = o.node; life = o.life })
+    | inr c ↦ (let o = inv.running k z a c.1 r in record { setup = o.setup; server = o.server; start = o.start; node = o.node; life = o.life; begun = o.begun })
   ];
   runs = λ k z q. elim (put_cases y w k z q) [
     | inl c ↦ subst (λ d. running_in w.past k ≡ inc_of d.running) c.1 (subst (λ d. running_in w.past d ≡ inc_of s.running) (sym (number_of w n s at_it) ∙ c.0) (inv.runs n s at_it))
@@ -211,6 +214,7 @@ written_keeps t w v inv n s at_it idle item row = record {
   told = λ m h. sent_grows t (Writes s.number x ∷ []) w.past m (inv.told m h);
   took = inv.took;
   mids = inv.mids;
+  heard = inv.heard;
   made = λ u h. elim (inv.made u h) [ inl z ↦ inl z | inr z ↦ inr (made_grows (Writes s.number x ∷ []) w.past u z) ];
   slots = inv.slots;
   done = inv.done;
@@ -247,7 +251,7 @@ started_keeps t w v inv n s at_it idle via = (after, record {
     | inl c ↦ subst (λ d. IsRunning t next after d b) c.1 (subst (λ d. IsRunning t next after y d) (some_is (subst (λ d. d.running ≡ Some b) (sym c.1) r)) run_here)
     | inr c ↦ (let o = inv.running k z b c.1 r in
       let apart : inc_eq j.inc b.me.inc ≡ false = of_server k z b c.1 r c.0 in
-      record { setup = o.setup; server = o.server; start = o.start; node = put_there v.at j.inc b.me.inc (joiner (group_of t) j.inc) apart ∙ o.node; life = life_of_others j.inc b.me.inc a.life w.past apart ∙ o.life })
+      record { setup = o.setup; server = o.server; start = o.start; node = put_there v.at j.inc b.me.inc (joiner (group_of t) j.inc) apart ∙ o.node; life = life_of_others j.inc b.me.inc a.life w.past apart ∙ o.life; begun = o.begun })
   ];
   runs = λ k z q. elim (put_cases y w k z q) [
     | inl c ↦ subst (λ d. running_in past k ≡ inc_of d.running) c.1 (subst (λ d. running_in past d ≡ Some j.inc) c.0 (ap (λ b. elim b [ true ↦ Some j.inc | false ↦ running_in (Does j.inc (Starts s.stored) ∷ w.past) s.number ]) (eq-eqb s.number s.number refl)))
@@ -280,6 +284,7 @@ started_keeps t w v inv n s at_it idle via = (after, record {
   ];
   took = (tt, (tt, inv.took));
   mids = (tt, (tt, inv.mids));
+  heard = (tt, (tt, did_map (HeardIn v) (HeardIn after) (heard_grows v after (λ m h. in_left m v.wire (nodes.start_sent j via.me.inc ∷ []) h)) w.past inv.heard));
   made = λ u h. elim (in_either u v.made (nodes.add_of j ∷ []) h) [
     | inl z ↦ elim (inv.made u z) [ inl k ↦ inl k | inr k ↦ inr (made_grows (dids j.inc a.life) w.past u k) ]
     | inr z ↦ elim z [ inl q ↦ inl (subst (λ x. x.id.number ≡ 0) q refl) | inr q ↦ absurd q ]
@@ -350,7 +355,7 @@ started_keeps t w v inv n s at_it idle via = (after, record {
     begun = (y, put_same y w, omega arith)
 
     run_here : IsRunning t next after y a
-    run_here = record { setup = refl; server = refl; start = refl; node = put_here v.at j.inc (joiner (group_of t) j.inc); life = life_here }
+    run_here = record { setup = refl; server = refl; start = refl; node = put_here v.at j.inc (joiner (group_of t) j.inc); life = life_here; begun = omega arith }
 
     of_server : (k : ℕ) (x : Server) (b : Member) → server_at w k ≡ Some x → x.running ≡ Some b → (s.number == k) ≡ false → inc_eq j.inc b.me.inc ≡ false
     of_server k x b q r z = elim (cases_Bool (inc_eq j.inc b.me.inc)) [

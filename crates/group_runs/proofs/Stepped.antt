@@ -1,5 +1,5 @@
 -- A step of a member keeps what holds of the world.
-use Rattle.std.proofs.Common.{eq-eqb, eqb, append_assoc, append-nil, ◌≡◌, ◌⊎◌, inl, inr, ℕ, ◌≤◌, ◌<◌, ◌-◌, Bool, true, false, cond, Option, Some, None, List, [], ◌∷◌, ◌++◌, refl, sym, ap, subst, ◌∙◌, length, take, arith}
+use Rattle.std.proofs.Common.{eq-eqb, eqb, append_assoc, append-nil, ◌≡◌, ◌⊎◌, inl, inr, ℕ, ◌≤◌, ◌<◌, ◌-◌, Bool, true, false, cond, Option, Some, None, List, [], ◌∷◌, ◌++◌, refl, sym, ap, subst, ◌∙◌, length, take, arith, ◌+◌, length-append}
 use Rattle.std.specs.Prelude.{map, ◌==◌, ◌&&◌, slice_get}
 use Rattle.std.proofs.lemmas.Bool.{false≢true, cases_Bool, eqb-true, and_parts}
 use Rattle.gr_ids.specs.Names.{inc_eq}
@@ -28,7 +28,7 @@ use Rattle.group_rules.specs.World.{World, Server, Past, Does, Writes, Halts, li
 use Rattle.group_rules.specs.Legal.{IsPast, WasMade}
 use Rattle.group_bridge.specs.Left.{IsSent, taken_left}
 use Rattle.group_bridge.specs.Moves.{is_apart, is_ask_or_give, slots_in, Each, IsAllowed, TookBy, TookRightly, SentBy, GreetedBy, IsActs, StepIsActs, cleared}
-use Rattle.group_runs.specs.Runs.{as_sent, is_founder, running_in, stored_in, WasGreeted, WasTold, WasSentAs, WasSent, AllDid, ByRules, IsDone, IsNodeRun, TookIn, TookThen, OfSlots}
+use Rattle.group_runs.specs.Runs.{as_sent, is_founder, running_in, stored_in, WasGreeted, WasTold, WasSentAs, WasSent, AllDid, IsActive, ByRules, IsDone, IsNodeRun, TookIn, TookThen, OfSlots, HeardIn}
 use Rattle.group_runs.proofs.Pasts.{inc_same, inc_is, take_more, in_left, in_right, in_either, in_map, life_of_dids, life_of_others, running_of_dids, running_of_others, past_of_more, past_grows, made_grows, did_map, did_more}
 use Rattle.group_runs.proofs.Servers.{put_same, put_other, put_cases, number_of}
 use Rattle.group_runs.proofs.Nodes.{one_more, acted_on, heard_on, index_of, put_here, put_there, all_made_own, slots_of_one, slots_of_other}
@@ -143,6 +143,33 @@ sent_grows t ps p m h = go m.wire h
     go (Alive n) k = tt
     go Gone k = tt
 
+-- a wire that has more
+pub heard_grows : (v v' : nodes.World) → ((m : Message) → In m v.wire → In m v'.wire) → (p : Past) (i : Inc) (d : Did) → HeardIn v p i d → HeardIn v' p i d
+heard_grows u u' f p i (Came (Hears m)) h = elim h [ inl z ↦ inl (f m z) | inr z ↦ inr z ]
+heard_grows u u' f p i Founds z = tt
+heard_grows u u' f p i (Starts x) z = tt
+heard_grows u u' f p i (Made v h) z = tt
+heard_grows u u' f p i (Done n) z = tt
+heard_grows u u' f p i (Committed g) z = tt
+heard_grows u u' f p i (Is s c) z = tt
+heard_grows u u' f p i (Gave n m) z = tt
+heard_grows u u' f p i (Answered s x) z = tt
+heard_grows u u' f p i (Begun s x y) z = tt
+heard_grows u u' f p i (Changed s c) z = tt
+heard_grows u u' f p i (Replied r) z = tt
+heard_grows u u' f p i (Called s v w) z = tt
+heard_grows u u' f p i (AsksCommit s j) z = tt
+heard_grows u u' f p i (Ends s) z = tt
+heard_grows u u' f p i (Enters w) z = tt
+heard_grows u u' f p i (Restores g cs) z = tt
+heard_grows u u' f p i AskFails z = tt
+heard_grows u u' f p i (Took x) z = tt
+heard_grows u u' f p i (Skips x y) z = tt
+heard_grows u u' f p i (Came Ticks) z = tt
+heard_grows u u' f p i (Came (Works x y)) z = tt
+heard_grows u u' f p i (Came (Calls x y)) z = tt
+heard_grows u u' f p i (Came (Operates x)) z = tt
+
 -- ---- the messages of a step
 
 in_with : (m x : Message) (ms : List Message) → In m (with_message ms x) → (x ≡ m) ⊎ In m ms
@@ -168,6 +195,9 @@ took_left x i (y ∷ xs) ys n h = elim (in_either x (nodes.does i y n).took (nod
   | inr z ↦ in_right x (nodes.does i y n).took (nodes.does_all i (xs ++ ys) (nodes.does i y n).node).took (took_left x i xs ys (nodes.does i y n).node z)
 ]
 
+longer : (xs ys : Life) → 1 < length ys → 1 < length (xs ++ ys)
+longer xs ys h = let e : length (xs ++ ys) ≡ length xs + length ys = length-append xs ys in omega (arith, h, e)
+
 -- ---- a member that begins to act
 
 -- the nodes after its node did f and then these acts
@@ -182,6 +212,7 @@ record Acting (t : Setup) (w : World) (v : nodes.World) (s : Server) (n : Node) 
   took : (f n).took ≡ []
   joins : (m : Message) → In m (f n).sent → is_joining m.wire ≡ false
   life : life_in w.past g.me.inc ≡ g.life
+  begun : 1 < length g.life
   setup : g.setup ≡ t
   server : g.me.inc.server ≡ s.number
   start : g.me.inc.start ≡ s.starts
@@ -289,8 +320,8 @@ module _ (t : Setup) (w : World) (v : nodes.World) (inv : Inv t w v) (number : �
       p : Past
       p = dids i rest ++ w.past
 
-      run : running_in (dids i rest ++ w.past) i.server ≡ Some i
-      run = running_of_dids i rest w.past a.runs
+      run : IsActive (dids i rest ++ w.past) i
+      run = record { running = running_of_dids i rest w.past a.runs; begun = subst (λ l. 1 < length l) (sym (life_here rest)) (longer rest g.life a.begun) }
 
       allowed : IsAllowed e t i d (life_in (dids i rest ++ w.past) i)
       allowed = subst (λ l. IsAllowed e t i d l) (sym (life_here rest)) (subst (λ y. IsAllowed e y i d (rest ++ g.life)) a.setup h)
@@ -394,6 +425,35 @@ module _ (t : Setup) (w : World) (v : nodes.World) (inv : Inv t w v) (number : �
     ]
   ]
 
+  heard_here : (d : Did) (rest : Life) → IsAllowed e g.setup i d (rest ++ g.life) → HeardIn after (dids i rest ++ w.past) i d
+  heard_here (Came (Hears m)) rest h = elim (inv.sent m (wired m (sym h)).0) [ inl z ↦ inl (in_left m v.wire (also (f n) (nodes.does_all i acts.acts)).sent z) | inr z ↦ inr z ]
+  heard_here Founds rest z = tt
+  heard_here (Starts x) rest z = tt
+  heard_here (Made v h) rest z = tt
+  heard_here (Done n) rest z = tt
+  heard_here (Committed x) rest z = tt
+  heard_here (Is s c) rest z = tt
+  heard_here (Gave n m) rest z = tt
+  heard_here (Answered s x) rest z = tt
+  heard_here (Begun s x y) rest z = tt
+  heard_here (Changed s c) rest z = tt
+  heard_here (Replied r) rest z = tt
+  heard_here (Called s v w) rest z = tt
+  heard_here (AsksCommit s j) rest z = tt
+  heard_here (Ends s) rest z = tt
+  heard_here (Enters w) rest z = tt
+  heard_here (Restores x cs) rest z = tt
+  heard_here AskFails rest z = tt
+  heard_here (Took x) rest z = tt
+  heard_here (Skips x y) rest z = tt
+  heard_here (Came Ticks) rest z = tt
+  heard_here (Came (Works x y)) rest z = tt
+  heard_here (Came (Calls x y)) rest z = tt
+  heard_here (Came (Operates x)) rest z = tt
+
+  all_heard : AllDid (HeardIn after) past
+  all_heard = did_more (HeardIn after) (IsAllowed e g.setup i) i g.life w.past heard_here acts.more acts.allowed (did_map (HeardIn v) (HeardIn after) (heard_grows v after (λ m h. in_left m v.wire (also (f n) (nodes.does_all i acts.acts)).sent h)) w.past inv.heard)
+
   -- ---- servers
 
   abbrev put : Server
@@ -432,6 +492,7 @@ module _ (t : Setup) (w : World) (v : nodes.World) (inv : Inv t w v) (number : �
     start = ap (λ j. j.inc.start) acts.me ∙ a.start;
     node = ap (λ j. after.at j.inc) acts.me ∙ (put_here v.at i (nodes.does_all i acts.acts (f n).node).node ∙ ap Some (ap (λ y. (nodes.does_all i acts.acts y).node) (sym a.node) ∙ sym acts.node));
     life = ap (λ j. life_in past j.inc) acts.me ∙ (life_here acts.more ∙ sym acts.grown);
+    begun = subst (λ l. 1 < length l) (sym acts.grown) (longer acts.more g.life a.begun);
   }
 
   all_running : (k : ℕ) (x : Server) (y : Member) → server_at next k ≡ Some x → x.running ≡ Some y → IsRunning t next after x y
@@ -439,7 +500,7 @@ module _ (t : Setup) (w : World) (v : nodes.World) (inv : Inv t w v) (number : �
     | inl z ↦ subst (λ c. IsRunning t next after c y) z.1 (subst (λ c. IsRunning t next after put c) (some_is (subst (λ c. c.running ≡ Some y) (sym z.1) r)) run_here)
     | inr z ↦ (let o = inv.running k x y z.1 r in
       let apart : inc_eq i y.me.inc ≡ false = of_server k x y z.1 r z.0 in
-      record { setup = o.setup; server = o.server; start = o.start; node = put_there v.at i y.me.inc _ apart ∙ o.node; life = life_of_others i y.me.inc acts.more w.past apart ∙ o.life })
+      record { setup = o.setup; server = o.server; start = o.start; node = put_there v.at i y.me.inc _ apart ∙ o.node; life = life_of_others i y.me.inc acts.more w.past apart ∙ o.life; begun = o.begun })
   ]
 
   all_runs : (k : ℕ) (x : Server) → server_at next k ≡ Some x → running_in past k ≡ inc_of x.running
@@ -487,6 +548,7 @@ module _ (t : Setup) (w : World) (v : nodes.World) (inv : Inv t w v) (number : �
     told = all_told;
     took = all_took;
     mids = all_mids;
+    heard = all_heard;
     made = made_by_acts acts.acts acts.more (λ u h. let y = acts.made u h in (y.0, in_left (Made u y.0) acts.more g.life y.1));
     slots = all_slots;
     done = all_done;
@@ -530,6 +592,7 @@ module _ (t : Setup) (named : Laws t) (takes_none : HearingTakesNone) (greets_no
         took = took;
         joins = joins;
         life = ap (λ j. life_in w.past j.inc) me ∙ (o.life ∙ sym life);
+        begun = subst (λ l. 1 < length l) (sym life) o.begun;
         setup = setup ∙ o.setup;
         server = ap (λ j. j.inc.server) me ∙ o.server;
         start = ap (λ j. j.inc.start) me ∙ o.start;

@@ -1,5 +1,5 @@
 -- What holds of all that happens in a run of the group: each thing was allowed by what had happened before, and the slots are those of a run of a world of nodes.
-use Rattle.std.specs.Prelude.{◌≡◌, ◌⊎◌, ◌<◌, ℕ, Bool, true, false, Option, Some, None, List, [], ◌∷◌, ◌++◌, ◌==◌, map}
+use Rattle.std.specs.Prelude.{◌≡◌, ◌⊎◌, ◌<◌, ℕ, Bool, true, false, Option, Some, None, List, [], ◌∷◌, ◌++◌, ◌==◌, map, length}
 use Rattle.gr_ids.specs.Names.{has_inc}
 use Rattle.gr_ids.specs.declared.names.Inc.{Inc}
 use Rattle.gr_ids.specs.declared.levels.MemberState.{MemberState}
@@ -28,7 +28,7 @@ use Rattle.order_laws.specs.Laws.{slots_by}
 use Rattle.group_rules.specs.World.{World, Move, world_after, Past, Does, Writes, Halts, life_in, nothing_stored, committed_of}
 use Rattle.group_rules.specs.Legal.{IsPast, WasMade}
 use Rattle.group_bridge.specs.Left.{IsSent, taken_left}
-use Rattle.group_bridge.specs.Moves.{IsAllowed, slots_in}
+use Rattle.group_bridge.specs.Moves.{is_apart, IsAllowed, slots_in}
 
 -- ---- the founding
 
@@ -104,9 +104,14 @@ AllDid P [] = Unit {0}
 AllDid P (Does i d ∷ p) = P p i d × AllDid P p
 AllDid P (x ∷ p) = AllDid P p
 
+-- it runs, and has its first state
+pub record IsActive (p : Past) (i : Inc) : Type 0 where
+  pub running : running_in p i.server ≡ Some i
+  pub begun : 1 < length (life_in p i)
+
 -- the rules allow it by what the incarnation had done before, in the step for some event
 abbrev pub ByRules : Setup → Past → Inc → Did → Type 0
-ByRules t p i d = (running_in p i.server ≡ Some i) × ((e : Event) × IsAllowed e t i d (life_in p i))
+ByRules t p i d = IsActive p i × ((e : Event) × IsAllowed e t i d (life_in p i))
 
 -- the first state
 abbrev pub IsFirst : Life → MemberState → Type 0
@@ -116,7 +121,7 @@ IsFirst l x = ((l ≡ Founds ∷ []) × (x ≡ Online)) ⊎ ((y : Stored) × (l 
 abbrev pub IsDone : Setup → Past → Inc → Did → Type 0
 IsDone t p i Founds = (running_in p i.server ≡ None) × (life_in p i ≡ []) × (is_founder t i ≡ true)
 IsDone t p i (Starts x) = (running_in p i.server ≡ None) × (life_in p i ≡ []) × (is_founder t i ≡ false) × (x ≡ stored_in p i.server)
-IsDone t p i (Came (Hears m)) = (running_in p i.server ≡ Some i) × (m.to ≡ i) × WasSent t p m
+IsDone t p i (Came (Hears m)) = IsActive p i × (m.to ≡ i) × WasSent t p m
 IsDone t p i (Is x c) = ((running_in p i.server ≡ Some i) × IsFirst (life_in p i) x) ⊎ ByRules t p i (Is x c)
 IsDone t p i d = ByRules t p i d
 
@@ -145,6 +150,11 @@ OfSlots P p i (Took e) = P p i (Took e)
 OfSlots P p i (Skips s v) = P p i (Skips s v)
 OfSlots P p i d = Unit {0}
 
+-- A message that is the node's came from the wire of the nodes.
+abbrev pub HeardIn : nodes.World → Past → Inc → Did → Type 0
+HeardIn v p i (Came (Hears m)) = In m v.wire ⊎ (is_apart m.wire ≡ true)
+HeardIn v p i d = Unit {0}
+
 -- ---- every run
 
 -- A run of the nodes has the slots of all that happened: those of each incarnation, in order. Each thing was allowed by what had happened before.
@@ -153,6 +163,7 @@ pub record OfNodes (t : Setup) (w : World) : Type 0 where
   pub run : IsNodeRun t nodes
   pub took : AllDid (OfSlots (TookIn t nodes)) w.past
   pub then : AllDid (OfSlots (TookThen t)) w.past
+  pub heard : AllDid (HeardIn nodes) w.past
   pub slots : (i : Inc) → slots_by i nodes.took ≡ slots_in (life_in w.past i)
   pub done : AllDid (IsDone t) w.past
 
