@@ -17,6 +17,7 @@ use Rattle.order_laws.proofs.Lists.{in_left, in_right, in_append, in_push}
 use Rattle.order_laws.proofs.Agree.{Decided, agree, chosen_once, logs_agree, log_chosen, decided_chosen}
 use Rattle.order_laws.proofs.Inv.{Nodes, Stands, LeaderOk, NodeOk, MsgOk, Inv, sound_of, put_cases, Rises, node_rises, wire_rises, backed_rises, wire_fewer}
 use Rattle.order_laws.proofs.Acts.{InvAfter, safe_quiet, safe_also}
+use Rattle.order_laws.proofs.Logs.{log_more}
 use Rattle.order_laws.proofs.Steps.{safe_step, safe_all}
 
 abbrev pub Good : Group → World → Type 0
@@ -203,7 +204,8 @@ kept_as_in_log arrange ok g es far x h =
     let inv = good arrange ok g es in
     let sound = sound_of g w.at w.wire w.cast w.took inv in
     let k = inv.took x h in
-    (k.log, log_chosen g (first_ballot g) w.cast far sound k.log k.log_decided, k.slot, decided_chosen g (first_ballot g) w.cast far sound k.log k.log_decided x.taken.slot x.taken.value (omega (arith, k.slot, far)) k.decided, k.kept)
+    (k.log, log_chosen g (first_ballot g) w.cast far sound k.log k.log_decided, k.slot, decided_chosen g (first_ballot g) w.cast far sound k.log k.log_decided x.taken.slot x.taken.value (omega (arith, k.slot, far)) k.decided, k.kept,
+        log_chosen g (first_ballot g) w.cast far sound (k.log ++ x.taken.value ∷ []) (log_more g w.cast k.log x.taken.value k.log_decided (subst (λ z. Decided g w.cast z x.taken.value) k.slot k.decided)))
 
 pub follows : InEveryRun Follows
 follows arrange ok g es far i n t here turns =

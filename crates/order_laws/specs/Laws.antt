@@ -35,9 +35,9 @@ Follows g w = (i : Inc) (n : Node) (t : Turns) → w.at i ≡ Some n → n.turns
     × (t.reading.place ≡ (after g log).place) × (t.reading.members ≡ (after g log).members) × (t.reading.ever ≡ (after g log).ever)
     × ((s : ℕ) → t.base < s → s ≤ t.slot + g.horizon → config_of t s ≡ Some (config g log s))
 
--- What each value taken became, kept at a place with effect or not, or skipped, is what it becomes after the log of chosen values before it.
+-- What each value taken became, kept at a place with effect or not, or skipped, is what it becomes after the log of chosen values before it; with it that is one too.
 abbrev pub KeptAsInLog : Group → World → Type 0
-KeptAsInLog g w = (x : Took) → In x w.took → (log : List Value) × IsChosenLog g w.cast log × (x.taken.slot ≡ length log + 1) × IsChosen g w.cast log x.taken.slot x.taken.value × (x.taken.kept ≡ became (after g log) x.taken.value)
+KeptAsInLog g w = (x : Took) → In x w.took → (log : List Value) × IsChosenLog g w.cast log × (x.taken.slot ≡ length log + 1) × IsChosen g w.cast log x.taken.slot x.taken.value × (x.taken.kept ≡ became (after g log) x.taken.value) × IsChosenLog g w.cast (log ++ x.taken.value ∷ [])
 
 -- ---- consecutive slots
 
