@@ -1,0 +1,2 @@
+mod Flips
+mod Logs

@@ -1,0 +1,2 @@
+//! The one ordered list of a run.
+#![tactic(auto)]
