@@ -62,7 +62,7 @@ use Rattle.group_rules.specs.Points.{asks_this, commit_all, prepare_all, begin_a
 use Rattle.group_rules.specs.Taking.{answer_conflict, on_conflict, propose}
 use Rattle.group_rules.specs.Steps.{hear_add, done_of, time_out, time_out_by, expel_one, campaign_if_due, look_after, tell_at, member_tick, tick_on, tick_once, add_of, reply_ballot, reply_sent, if_online, leave, operate, held_mark}
 use Rattle.group_bridge.specs.Left.{IsPast, IsOpen, txn_then, MadeParts, HoldsRightly, with_all, AreOf, IsAnswered, IsEntered, IsRestored}
-use Rattle.group_bridge.specs.Moves.{Moves, Stays, Leaves, Sends, Acts, Makes, Then}
+use Rattle.group_bridge.specs.Moves.{Moves, Stays, Leaves, Sends, Acts, Makes, Welcomes, Then}
 use Rattle.group_bridge.proofs.Lists.{in_left, in_right, in_either}
 
 inc_same : (i : Inc) → inc_eq i i ≡ true
@@ -297,7 +297,7 @@ module _ (e : Event) where
   -- ---- joining
 
   pub moves_hear_welcome : (m : Message) (w : Welcome) (a : Member) → HeardLast m a → m.wire ≡ Greet w → Moves e a (hear_welcome w a)
-  moves_hear_welcome m w a h q = where_true _ (λ y. Then (Leaves (Enters w) a (entered y)) (Leaves (Is Recovering Welcomed) (push (Enters w) a) (w, a.life, refl))) (Stays a)
+  moves_hear_welcome m w a h q = where_true _ (λ y. Welcomes w a (entered y)) (Stays a)
     where
       entered : (is_offline (state a.life) && (is_in_order w && is_for w a.me.inc a.node.horizon)) ≡ true → IsEntered a.me.inc a.life w
       entered y =

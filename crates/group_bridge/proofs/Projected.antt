@@ -1,5 +1,5 @@
 -- What follows from moves: the node comes from a list of acts, the messages are theirs or aren't the node's, the history grows.
-use Rattle.std.proofs.Common.{append_assoc, append-nil, ◌≡◌, ◌⊎◌, inl, inr, Bool, true, false, Option, Some, None, List, [], ◌∷◌, ◌++◌, refl, sym, ◌∙◌, ap, subst}
+use Rattle.std.proofs.Common.{not, append_assoc, append-nil, ◌≡◌, ◌⊎◌, inl, inr, Bool, true, false, Option, Some, None, List, [], ◌∷◌, ◌++◌, refl, sym, ◌∙◌, ap, subst}
 use Rattle.std.specs.Prelude.{ℕ, if◌then◌else◌, map, flat_map}
 use Rattle.std.proofs.lemmas.Bool.{false≢true}
 use Rattle.gr_ids.specs.Names.{inc_eq}
@@ -17,7 +17,7 @@ use Rattle.node_rules.specs.Taking.{take}
 use Rattle.node_rules.specs.Welcoming.{Shown, welcome_of}
 use Rattle.node_rules.specs.World.{Act, Owns, Campaigns, Ticks, Proposes, Takes, does, does_all, greets, greet_by, made_by, all_made_by}
 use Rattle.order_laws.specs.Laws.{is_taking, is_joining, OnlyTakingTakes, OnlyTakingGreets, TakingIsSilent}
-use Rattle.group_rules.specs.declared.marks.Cause.TheVariants.{OwnOnline}
+use Rattle.group_rules.specs.declared.marks.Cause.TheVariants.{OwnOnline, Welcomed}
 use Rattle.gr_ids.specs.declared.levels.MemberState.TheVariants.{Offline, Recovering, Online, Error}
 use Rattle.slot_values.specs.declared.value.Joiner.{Joiner}
 use Rattle.slot_values.specs.declared.value.What.{What}
@@ -32,8 +32,8 @@ use Rattle.group_rules.specs.View.{shown}
 use Rattle.group_rules.specs.Parts.{open_parts, held}
 use Rattle.group_rules.specs.Member.{Member}
 use Rattle.group_rules.specs.Taking.{effect_of, entry_of}
-use Rattle.group_bridge.specs.Left.{IsLeft, IsSent, slot_left, taken_left, is_arrival_of, with_rise}
-use Rattle.group_bridge.specs.Moves.{is_apart, is_inner, is_ask_or_give, IsShown, IsRead, reads, Moves, Stays, Leaves, Sends, Acts, Makes, Reads, Then, Each, IsAllowed, TookBy, TookRightly, SentBy, GreetedBy, slots_in, IsActs, StepIsActs}
+use Rattle.group_bridge.specs.Left.{IsLeft, is_settled, IsAfterAll, IsSent, slot_left, taken_left, is_arrival_of, with_rise}
+use Rattle.group_bridge.specs.Moves.{is_apart, is_inner, is_ask_or_give, IsShown, IsRead, reads, Moves, Stays, Leaves, Sends, Acts, Makes, Welcomes, Reads, Then, Each, IsAllowed, TookBy, TookRightly, SentBy, GreetedBy, slots_in, IsActs, StepIsActs}
 use Rattle.group_bridge.proofs.Lists.{in_left, in_right, in_either}
 use Rattle.group_bridge.proofs.Taken.{steps}
 
@@ -283,6 +283,7 @@ module _ (e : Event) (a b c : Member) (p : IsActs e a b) (q : IsActs e b c) wher
     more = q.more ++ p.more;
     grown = q.grown ∙ goes_on q.more;
     allowed = each_join (IsAllowed e a.setup a.me.inc) q.more p.more a.life (subst (λ l. Each (IsAllowed e a.setup a.me.inc) q.more l) p.grown (each_map (IsAllowed e b.setup b.me.inc) (IsAllowed e a.setup a.me.inc) b.life q.more allowed_then q.allowed)) p.allowed;
+    settled = settled_both;
     took = each_join (TookRightly a (p.acts ++ q.acts)) q.more p.more a.life (subst (λ l. Each (TookRightly a (p.acts ++ q.acts)) q.more l) p.grown (each_map (TookRightly b q.acts) (TookRightly a (p.acts ++ q.acts)) b.life q.more rightly_then q.took)) (each_map (TookRightly a p.acts) (TookRightly a (p.acts ++ q.acts)) a.life p.more rightly_first p.took);
     slots = slots_both;
     made = λ v h. elim (made_either v a.me.inc p.acts q.acts h) [
@@ -295,6 +296,12 @@ module _ (e : Event) (a b c : Member) (p : IsActs e a b) (q : IsActs e b c) wher
     setup = q.setup ∙ p.setup;
   }
     where
+      settled_both : is_settled a.me.inc a.life ≡ true → (is_settled a.me.inc c.life ≡ true) × Each (IsAfterAll a.me.inc) (q.more ++ p.more) a.life
+      settled_both h =
+          let x = p.settled h in
+          let y = subst (λ i. (is_settled i c.life ≡ true) × Each (IsAfterAll i) q.more b.life) same_inc (q.settled (subst (λ i. is_settled i b.life ≡ true) (sym same_inc) x.0)) in
+          (y.0, each_join (IsAfterAll a.me.inc) q.more p.more a.life (subst (λ l. Each (IsAfterAll a.me.inc) q.more l) p.grown y.1) x.1)
+
       later_slots : map (λ x. x.slot) (does_all a.me.inc q.acts (does_all a.me.inc p.acts a.node).node).took ≡ slots_in q.more
       later_slots = ap (λ n. map (λ x. x.slot) (does_all a.me.inc q.acts n).took) (sym p.node) ∙ (ap (λ i. map (λ x. x.slot) (does_all i q.acts b.node).took) (sym same_inc) ∙ q.slots)
 
@@ -326,7 +333,7 @@ left_rightly e a (Replied r) z = tt
 left_rightly e a (Called s v w) z = tt
 left_rightly e a (AsksCommit s i) z = tt
 left_rightly e a (Ends s) z = tt
-left_rightly e a (Enters w) z = tt
+left_rightly e a (Enters w) z = absurd z
 left_rightly e a (Restores g cs) z = tt
 left_rightly e a AskFails z = tt
 
@@ -348,7 +355,7 @@ left_no_slot e a (Replied r) z = refl
 left_no_slot e a (Called s v w) z = refl
 left_no_slot e a (AsksCommit s i) z = refl
 left_no_slot e a (Ends s) z = refl
-left_no_slot e a (Enters w) z = refl
+left_no_slot e a (Enters w) z = absurd z
 left_no_slot e a (Restores g cs) z = refl
 left_no_slot e a AskFails z = refl
 
@@ -358,7 +365,7 @@ left_allowed e a (Skips t v) h = absurd h
 left_allowed e a (Made v x) h = absurd h
 left_allowed e a (Is Online c) h = absurd h
 left_allowed e a (Is Offline c) h = absurd h
-left_allowed e a (Is Recovering c) h = h
+left_allowed e a (Is Recovering c) h = absurd h
 left_allowed e a (Is Error c) h = h
 left_allowed e a Founds z = z
 left_allowed e a (Starts x) z = z
@@ -373,9 +380,31 @@ left_allowed e a (Replied r) z = z
 left_allowed e a (Called s v w) z = z
 left_allowed e a (AsksCommit s i) z = z
 left_allowed e a (Ends s) z = z
-left_allowed e a (Enters w) z = z
+left_allowed e a (Enters w) z = absurd z
 left_allowed e a (Restores g cs) z = z
 left_allowed e a AskFails z = z
+
+left_settled : (e : Event) (a : Member) (d : Did) → IsLeft e a.setup a.me.inc a.life d → is_settled a.me.inc a.life ≡ true → (is_settled a.me.inc (d ∷ a.life) ≡ true) × Each (IsAfterAll a.me.inc) (d ∷ []) a.life
+left_settled e a (Took x) h s = absurd h
+left_settled e a (Skips t v) h s = absurd h
+left_settled e a (Enters w) h s = absurd h
+left_settled e a Founds h s = (refl, (s, tt))
+left_settled e a (Starts x) h s = (refl, (s, tt))
+left_settled e a (Came x) h s = (refl, (s, tt))
+left_settled e a (Made v k) h s = (refl, (s, tt))
+left_settled e a (Done p) h s = (refl, (s, tt))
+left_settled e a (Committed g) h s = (refl, (s, tt))
+left_settled e a (Is u c) h s = (refl, (tt, tt))
+left_settled e a (Gave p n) h s = (refl, (s, tt))
+left_settled e a (Answered u x) h s = (refl, (s, tt))
+left_settled e a (Begun u x y) h s = (refl, (s, tt))
+left_settled e a (Changed u c) h s = (refl, (s, tt))
+left_settled e a (Replied r) h s = (refl, (s, tt))
+left_settled e a (Called u v w) h s = (refl, (s, tt))
+left_settled e a (AsksCommit u i) h s = (refl, (s, tt))
+left_settled e a (Ends u) h s = (refl, (s, tt))
+left_settled e a (Restores g cs) h s = (refl, (s, tt))
+left_settled e a AskFails h s = (refl, (s, tt))
 
 made_one : (v w : Value) (holds : Option Body) (i : Inc) → In w (all_made_by i (Owns v ∷ [])) → (b : Option Body) × In (Made w b) (Made v holds ∷ [])
 made_one v w holds i h = go (inc_eq v.id.origin i) h
@@ -559,28 +588,29 @@ module _ (only_takes : OnlyTakingTakes) (only_greets : OnlyTakingGreets) (silent
   reads_acts : (e : Event) (g : Option Shown) (x : Taken) (a : Member) → IsRead a x g → IsActs e a (reads g x a)
   reads_acts e g x a r = go x.kept refl
     where
-      made_so : (more : Life) → Each (IsAllowed e a.setup a.me.inc) more a.life → Each (TookRightly a (Takes g ∷ [])) more a.life → x.slot ∷ [] ≡ slots_in more →
+      made_so : (more : Life) → Each (IsAllowed e a.setup a.me.inc) more a.life → (is_settled a.me.inc a.life ≡ true → (is_settled a.me.inc (more ++ a.life) ≡ true) × Each (IsAfterAll a.me.inc) more a.life) → Each (TookRightly a (Takes g ∷ [])) more a.life → x.slot ∷ [] ≡ slots_in more →
           ((m : Message) (w : Welcome) → In m (a.sent ++ (does a.me.inc (Takes g) a.node).sent) → m.wire ≡ Greet w → In m a.sent ⊎ GreetedBy a more m w) → IsActs e a (record (reads g x a) { life = more ++ a.life })
-      made_so more w t z q = record { acts = Takes g ∷ []; node = refl; sent = λ m h. one_sent m (Takes g) a h; more = more; grown = refl; allowed = w; took = t; slots = slot_of_one g x a r ∙ z; made = λ v h. absurd h; asked = λ m h k. no_ask_taking g x a more r m h k; greeted = q; me = refl; setup = refl }
+      made_so more w u t z q = record { acts = Takes g ∷ []; node = refl; sent = λ m h. one_sent m (Takes g) a h; more = more; grown = refl; allowed = w; settled = u; took = t; slots = slot_of_one g x a r ∙ z; made = λ v h. absurd h; asked = λ m h k. no_ask_taking g x a more r m h k; greeted = q; me = refl; setup = refl }
 
       rises : (p : ℕ) (b : Bool) → x.kept ≡ KeptAt p b → (c : Bool) → is_arrival_of a.me.inc (entry_of a.setup a.life x.slot p b x.value) ≡ c → IsActs e a (record (reads g x a) { life = elim c [ true ↦ Is Online OwnOnline ∷ Took (entry_of a.setup a.life x.slot p b x.value) ∷ a.life | false ↦ Took (entry_of a.setup a.life x.slot p b x.value) ∷ a.life ] })
       rises p b q true h =
           let y : Entry = entry_of a.setup a.life x.slot p b x.value in
-          made_so (Is Online OwnOnline ∷ Took y ∷ []) ((y, a.life, refl, h), (r.ready, tt)) (tt, (one_taken a x g r (Took y) (ap (λ k. slot_left a.setup a.life x.slot x.value k) (sym q)), tt)) refl (greets_taking g x a y (Is Online OwnOnline ∷ []) p b r q refl)
+          made_so (Is Online OwnOnline ∷ Took y ∷ []) ((y, a.life, refl, h), (r.ready, tt)) (λ s. (refl, (tt, (s, tt)))) (tt, (one_taken a x g r (Took y) (ap (λ k. slot_left a.setup a.life x.slot x.value k) (sym q)), tt)) refl (greets_taking g x a y (Is Online OwnOnline ∷ []) p b r q refl)
       rises p b q false h =
           let y : Entry = entry_of a.setup a.life x.slot p b x.value in
-          made_so (Took y ∷ []) (r.ready, tt) (one_taken a x g r (Took y) (ap (λ k. slot_left a.setup a.life x.slot x.value k) (sym q)), tt) refl (greets_taking g x a y [] p b r q refl)
+          made_so (Took y ∷ []) (r.ready, tt) (λ s. (ap not h, (s, tt))) (one_taken a x g r (Took y) (ap (λ k. slot_left a.setup a.life x.slot x.value k) (sym q)), tt) refl (greets_taking g x a y [] p b r q refl)
 
       go : (k : Kept) → x.kept ≡ k → IsActs e a (record (reads g x a) { life = with_rise a.me.inc (slot_left a.setup a.life x.slot x.value k) a.life })
-      go IsSkipped q = made_so (Skips x.slot x.value ∷ []) (r.ready, tt) (one_taken a x g r (Skips x.slot x.value) (ap (λ k. slot_left a.setup a.life x.slot x.value k) (sym q)), tt) refl (skips_taking g x a (Skips x.slot x.value ∷ []) r q)
+      go IsSkipped q = made_so (Skips x.slot x.value ∷ []) (r.ready, tt) (λ s. (refl, (s, tt))) (one_taken a x g r (Skips x.slot x.value) (ap (λ k. slot_left a.setup a.life x.slot x.value k) (sym q)), tt) refl (skips_taking g x a (Skips x.slot x.value ∷ []) r q)
       go (KeptAt p b) q = rises p b q (is_arrival_of a.me.inc (entry_of a.setup a.life x.slot p b x.value)) refl
 
   pub is_acts : {e : Event} {a b : Member} → Moves e a b → IsActs e a b
-  is_acts (Stays a) = record { acts = []; node = refl; sent = λ m h. inl h; more = []; grown = refl; allowed = tt; took = tt; slots = refl; made = λ v h. absurd h; asked = λ m h k. inl h; greeted = λ m w h k. inl h; me = refl; setup = refl }
-  is_acts {e = e} (Leaves d a w) = record { acts = []; node = refl; sent = λ m h. inl h; more = d ∷ []; grown = refl; allowed = (left_allowed e a d w, tt); took = (left_rightly e a d w, tt); slots = left_no_slot e a d w; made = λ v h. absurd h; asked = λ m h k. inl h; greeted = λ m w h k. inl h; me = refl; setup = refl }
-  is_acts (Sends i x a w z) = record { acts = []; node = refl; sent = λ m h. apart_sent m i x a w h; more = []; grown = refl; allowed = tt; took = tt; slots = refl; made = λ v h. absurd h; asked = λ m h k. sent_beside i x a z m h; greeted = λ m u h k. no_welcome_beside i x a w m u h k; me = refl; setup = refl }
-  is_acts (Acts x a w) = record { acts = x ∷ []; node = refl; sent = λ m h. one_sent m x a h; more = []; grown = refl; allowed = tt; took = tt; slots = none_taken x a (not_taking x w); made = λ v h. none_made x v a.me.inc [] w h; asked = none_asked x a [] (not_taking x w); greeted = none_greeted x a [] (not_taking x w); me = refl; setup = refl }
-  is_acts (Makes v holds a w) = record { acts = Owns v ∷ []; node = refl; sent = λ m h. one_sent m (Owns v) a h; more = Made v holds ∷ []; grown = refl; allowed = (w, tt); took = (tt, tt); slots = none_taken (Owns v) a refl; made = λ u h. made_one v u holds a.me.inc h; asked = none_asked (Owns v) a (Made v holds ∷ []) refl; greeted = none_greeted (Owns v) a (Made v holds ∷ []) refl; me = refl; setup = refl }
+  is_acts (Stays a) = record { acts = []; node = refl; sent = λ m h. inl h; more = []; grown = refl; allowed = tt; settled = λ h. (h, tt); took = tt; slots = refl; made = λ v h. absurd h; asked = λ m h k. inl h; greeted = λ m w h k. inl h; me = refl; setup = refl }
+  is_acts {e = e} (Leaves d a w) = record { acts = []; node = refl; sent = λ m h. inl h; more = d ∷ []; grown = refl; allowed = (left_allowed e a d w, tt); settled = left_settled e a d w; took = (left_rightly e a d w, tt); slots = left_no_slot e a d w; made = λ v h. absurd h; asked = λ m h k. inl h; greeted = λ m w h k. inl h; me = refl; setup = refl }
+  is_acts (Sends i x a w z) = record { acts = []; node = refl; sent = λ m h. apart_sent m i x a w h; more = []; grown = refl; allowed = tt; settled = λ h. (h, tt); took = tt; slots = refl; made = λ v h. absurd h; asked = λ m h k. sent_beside i x a z m h; greeted = λ m u h k. no_welcome_beside i x a w m u h k; me = refl; setup = refl }
+  is_acts (Acts x a w) = record { acts = x ∷ []; node = refl; sent = λ m h. one_sent m x a h; more = []; grown = refl; allowed = tt; settled = λ h. (h, tt); took = tt; slots = none_taken x a (not_taking x w); made = λ v h. none_made x v a.me.inc [] w h; asked = none_asked x a [] (not_taking x w); greeted = none_greeted x a [] (not_taking x w); me = refl; setup = refl }
+  is_acts (Makes v holds a w) = record { acts = Owns v ∷ []; node = refl; sent = λ m h. one_sent m (Owns v) a h; more = Made v holds ∷ []; grown = refl; allowed = (w, tt); settled = λ h. (refl, (h, tt)); took = (tt, tt); slots = none_taken (Owns v) a refl; made = λ u h. made_one v u holds a.me.inc h; asked = none_asked (Owns v) a (Made v holds ∷ []) refl; greeted = none_greeted (Owns v) a (Made v holds ∷ []) refl; me = refl; setup = refl }
+  is_acts (Welcomes w a h) = record { acts = []; node = refl; sent = λ m k. inl k; more = Is Recovering Welcomed ∷ Enters w ∷ []; grown = refl; allowed = ((w, a.life, refl), (h, tt)); settled = λ s. (refl, (tt, (s, tt))); took = (tt, (tt, tt)); slots = refl; made = λ v k. absurd k; asked = λ m k z. inl k; greeted = λ m u k z. inl k; me = refl; setup = refl }
   is_acts {e = e} (Reads g x a w) = reads_acts e g x a w
   is_acts {e = e} (Then {a = a} {b = b} {c = c} p q) = joins e a b c (is_acts p) (is_acts q)
 

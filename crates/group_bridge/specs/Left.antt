@@ -1,6 +1,6 @@
 -- What each thing that is left in a history asks of the history before it: the tests that a member makes before it leaves it.
 -- `l` is the history before, of the incarnation `i`; `e` is the event of the step.
-use Rattle.std.specs.Prelude.{◌≡◌, ◌⊎◌, ◌≤◌, ◌<◌, ℕ, suc, Bool, true, false, ◌&&◌, Option, Some, None, List, [], ◌∷◌, ◌++◌, length, reverse, filter, nat_le, ◌==◌}
+use Rattle.std.specs.Prelude.{◌≡◌, ◌⊎◌, ◌≤◌, ◌<◌, ℕ, suc, Bool, true, false, ◌&&◌, not, Option, Some, None, List, [], ◌∷◌, ◌++◌, length, reverse, filter, nat_le, ◌==◌}
 use Rattle.gr_ids.specs.Names.{inc_eq, is_inc}
 use Rattle.gtid_sets.specs.Sets.{Gtids, minus, with_gtid}
 use Rattle.slot_values.specs.declared.kept.Kept.{Kept}
@@ -167,11 +167,10 @@ pub record IsRestored (s : Setup) (l : Life) (g : Give) (cs : List Cert) : Type 
   pub possible : is_possible s g cs ≡ true
   pub no_extra : minus (executed past) g.certified ≡ []
 
--- a State mark follows what it is the state of
-abbrev pub IsState : Inc → Life → MemberState → Type 0
-IsState i l Recovering = (w : Welcome) × (past : Life) × (l ≡ Enters w ∷ past)
-IsState i l Error = Unit {0}
-IsState i l x = ⊥
+-- (the states RECOVERING and ONLINE come with a Welcome and with the own Online entry)
+abbrev pub IsState : MemberState → Type 0
+IsState Error = Unit {0}
+IsState x = ⊥
 
 -- ---- all else
 
@@ -179,7 +178,7 @@ abbrev pub IsAnswered : Inc → Life → Answer → Type 0
 IsAnswered i l (CommittedAs g) = IsAcknowledged i l g
 IsAnswered i l x = Unit {0}
 
--- (Own values, slots taken and the beginning of a history are left otherwise.)
+-- (Own values, slots taken, a Welcome and the beginning of a history are left otherwise.)
 abbrev pub IsLeft : Event → Setup → Inc → Life → Did → Type 0
 IsLeft e s i l Founds = ⊥
 IsLeft e s i l (Starts x) = ⊥
@@ -189,7 +188,7 @@ IsLeft e s i l (Took x) = ⊥
 IsLeft e s i l (Skips t v) = ⊥
 IsLeft e s i l (Done p) = (c : Cert) × (at_place (queue l i) p ≡ Some c) × (is_done l p ≡ false)
 IsLeft e s i l (Committed g) = IsCommitted s i l g
-IsLeft e s i l (Is x c) = IsState i l x
+IsLeft e s i l (Is x c) = IsState x
 IsLeft e s i l (Gave p n) = Unit {0}
 IsLeft e s i l (Answered t x) = IsAnswered i l x
 IsLeft e s i l (Begun t set sync) = IsBegun s i l t set sync
@@ -198,7 +197,7 @@ IsLeft e s i l (Replied r) = Unit {0}
 IsLeft e s i l (Called t v w) = (phase l t ≡ Free) × ((past : Life) × (l ≡ Came (Calls t (Begin v w)) ∷ past))
 IsLeft e s i l (AsksCommit t id) = IsOpen l t
 IsLeft e s i l (Ends t) = Unit {0}
-IsLeft e s i l (Enters w) = IsEntered i l w
+IsLeft e s i l (Enters w) = ⊥
 IsLeft e s i l (Restores g cs) = IsRestored s l g cs
 IsLeft e s i l AskFails = Unit {0}
 
@@ -219,6 +218,16 @@ is_arrival_of i e = inc_eq e.value.id.origin i && is_arrival e.holds
 abbrev pub with_rise : Inc → Did → Life → Life
 with_rise i (Took e) l = elim (is_arrival_of i e) [ true ↦ Is Online OwnOnline ∷ Took e ∷ l | false ↦ Took e ∷ l ]
 with_rise i d l = d ∷ l
+
+-- Between what an incarnation takes and the own state that comes with it nothing else is left.
+abbrev pub is_settled : Inc → Life → Bool
+is_settled i (Took e ∷ l) = not (is_arrival_of i e)
+is_settled i (Enters w ∷ l) = false
+is_settled i l = true
+
+abbrev pub IsAfterAll : Inc → Did → Life → Type 0
+IsAfterAll i (Is x c) l = Unit {0}
+IsAfterAll i d l = is_settled i l ≡ true
 
 -- ---- messages that aren't the node's
 

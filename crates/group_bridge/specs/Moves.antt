@@ -1,11 +1,12 @@
 -- How a member comes to be another one: by acts of its node, by things left in its history, and by messages that aren't its node's.
 use Rattle.std.specs.Prelude.{◌≡◌, ◌⊎◌, ℕ, Bool, true, false, Option, Some, None, List, [], ◌∷◌, ◌++◌, ◌==◌, map}
 use Rattle.gr_ids.specs.declared.names.Inc.{Inc}
-use Rattle.gr_ids.specs.declared.levels.MemberState.TheVariants.{Online}
+use Rattle.gr_ids.specs.declared.levels.MemberState.TheVariants.{Recovering, Online}
 use Rattle.slot_values.specs.declared.value.Joiner.{Joiner}
 use Rattle.slot_values.specs.declared.value.What.TheVariants.{Add}
 use Rattle.slot_values.specs.Log.{Turns}
 use Rattle.group_rules.specs.declared.marks.Effect.TheVariants.{Plain}
+use Rattle.group_rules.specs.declared.marks.Cause.TheVariants.{Welcomed}
 use Rattle.paxos_forms.specs.declared.welcome.Welcome.{Welcome}
 use Rattle.node_rules.specs.Node.{Node}
 use Rattle.slot_values.specs.declared.value.Value.{Value}
@@ -19,13 +20,13 @@ use Rattle.node_rules.specs.declared.taken.Taken.{Taken}
 use Rattle.node_rules.specs.Taking.{take}
 use Rattle.node_rules.specs.Welcoming.{Shown, welcome_of}
 use Rattle.node_rules.specs.World.{Act, Owns, Campaigns, Ticks, Proposes, Takes, does, does_all, all_made_by}
-use Rattle.group_rules.specs.Events.{Did, Made, Took, Skips, Is, Life, Setup, Entry, Event, Hears}
+use Rattle.group_rules.specs.Events.{Did, Made, Took, Skips, Is, Enters, Life, Setup, Entry, Event, Hears}
 use Rattle.group_rules.specs.Life.{state, is_up, view}
 use Rattle.group_rules.specs.View.{shown}
 use Rattle.group_rules.specs.Member.{Member, push, send, by_node, at_node}
 use Rattle.group_rules.specs.Taking.{takes_slots}
 use Rattle.group_rules.specs.Steps.{step}
-use Rattle.group_bridge.specs.Left.{IsLeft, IsMade, IsSent, is_arrival_of, taken_left, with_rise}
+use Rattle.group_bridge.specs.Left.{IsLeft, IsMade, IsEntered, is_settled, IsAfterAll, IsSent, is_arrival_of, taken_left, with_rise}
 
 -- messages that aren't the node's: an Ask, a Give, and the Add of a joiner
 abbrev pub is_apart : Wire → Bool
@@ -67,6 +68,7 @@ pub data Moves (e : Event) : Member → Member → Type 0 where
   Sends : (to : Inc) (x : Wire) (a : Member) → is_apart x ≡ true → IsSent a.setup a.life to x → Moves e a (send to x a)
   Acts : (x : Act) (a : Member) → is_inner x ≡ true → Moves e a (acts x a)
   Makes : (v : Value) (holds : Option Body) (a : Member) → IsMade a.setup a.me.inc a.life v holds → Moves e a (acts (Owns v) (push (Made v holds) a))
+  Welcomes : (w : Welcome) (a : Member) → IsEntered a.me.inc a.life w → Moves e a (push (Is Recovering Welcomed) (push (Enters w) a))
   Reads : (g : Option Shown) (x : Taken) (a : Member) → IsRead a x g → Moves e a (reads g x a)
   Then : {a b c : Member} → Moves e a b → Moves e b c → Moves e a c
 
@@ -111,6 +113,8 @@ abbrev pub IsAllowed : Event → Setup → Inc → Did → Life → Type 0
 IsAllowed e s i (Made v holds) l = IsMade s i l v holds
 IsAllowed e s i (Took x) l = takes_slots l ≡ true
 IsAllowed e s i (Skips t v) l = takes_slots l ≡ true
+IsAllowed e s i (Enters w) l = IsEntered i l w
+IsAllowed e s i (Is Recovering c) l = (w : Welcome) × (past : Life) × (l ≡ Enters w ∷ past)
 IsAllowed e s i (Is Online c) l = (x : Entry) × (past : Life) × (l ≡ Took x ∷ past) × (is_arrival_of i x ≡ true)
 IsAllowed e s i d l = IsLeft e s i l d
 
@@ -161,6 +165,7 @@ pub record IsActs (e : Event) (a b : Member) : Type 0 where
   pub more : Life
   pub grown : b.life ≡ more ++ a.life
   pub allowed : Each (IsAllowed e a.setup a.me.inc) more a.life
+  pub settled : is_settled a.me.inc a.life ≡ true → (is_settled a.me.inc b.life ≡ true) × Each (IsAfterAll a.me.inc) more a.life
   pub took : Each (TookRightly a acts) more a.life
   pub slots : map (λ x. x.slot) (does_all a.me.inc acts a.node).took ≡ slots_in more
   pub made : (v : Value) → In v (all_made_by a.me.inc acts) → (holds : Option Body) × In (Made v holds) more

@@ -93,7 +93,7 @@ module _ (t : Setup) (good : IsSetup t) where
       | inl c ↦ subst (λ d. IsRunning t next v d b) c.1 (subst (λ d. IsRunning t next v y d) (some_is (subst (λ d. d.running ≡ Some b) (sym c.1) r)) run_here)
       | inr c ↦ (let o = p.running k z b c.1 r in
         let apart : inc_eq j.inc b.me.inc ≡ false = of_server k z b c.1 r c.0 in
-        record { setup = o.setup; server = o.server; start = o.start; node = o.node; life = life_of_others j.inc b.me.inc a.life w.past apart ∙ o.life; begun = o.begun })
+        record { setup = o.setup; server = o.server; start = o.start; node = o.node; life = life_of_others j.inc b.me.inc a.life w.past apart ∙ o.life; begun = o.begun; settled = o.settled })
     ];
     runs = λ k z q. elim (put_cases y w k z q) [
       | inl c ↦ subst (λ d. running_in past k ≡ inc_of d.running) c.1 (subst (λ d. running_in past d ≡ Some j.inc) c.0 run_now)
@@ -177,7 +177,7 @@ module _ (t : Setup) (good : IsSetup t) where
       begun = (y, put_same y w, omega (arith, good.first j (p.all j (inl refl))))
 
       run_here : IsRunning t next v y a
-      run_here = record { setup = refl; server = refl; start = good.first j (p.all j (inl refl)); node = ap (λ b. if b then Some (founder (group_of t) j.inc) else None) (in_found j t.founders (p.all j (inl refl))); life = life_here; begun = omega arith }
+      run_here = record { setup = refl; server = refl; start = good.first j (p.all j (inl refl)); node = ap (λ b. if b then Some (founder (group_of t) j.inc) else None) (in_found j t.founders (p.all j (inl refl))); life = life_here; begun = omega arith; settled = refl }
 
       of_server : (k : ℕ) (x : Server) (b : Member) → server_at w k ≡ Some x → x.running ≡ Some b → (j.inc.server == k) ≡ false → inc_eq j.inc b.me.inc ≡ false
       of_server k x b q r z = elim (cases_Bool (inc_eq j.inc b.me.inc)) [

@@ -10,6 +10,7 @@ use Rattle.group_rules.specs.Events.{Did, Setup, Life}
 use Rattle.group_rules.specs.Member.{Member}
 use Rattle.group_rules.specs.World.{World, Server, Past, server_at, life_in, nothing_stored}
 use Rattle.group_rules.specs.Legal.{WasMade}
+use Rattle.group_bridge.specs.Left.{is_settled}
 use Rattle.group_bridge.specs.Moves.{is_apart, slots_in}
 use Rattle.group_runs.specs.Runs.{is_founder, running_in, stored_in, WasSent, AllDid, IsDone, IsNodeRun, TookIn, TookThen, OfSlots, HeardIn}
 
@@ -25,6 +26,7 @@ pub record IsRunning (t : Setup) (w : World) (v : nodes.World) (s : Server) (a :
   pub node : v.at a.me.inc ≡ Some a.node
   pub life : life_in w.past a.me.inc ≡ a.life
   pub begun : 1 < length a.life
+  pub settled : is_settled a.me.inc a.life ≡ true
 
 -- the incarnation was started at its server
 abbrev pub WasStarted : World → Inc → Type 0

@@ -64,7 +64,7 @@ declared_keeps t w v inv n u z g h = record {
   ended = inv.ended;
   running = λ k x a q r. elim (put_cases y w k x q) [
     | inl c ↦ absurd (none_runs (subst (λ d. d.running ≡ Some a) (sym c.1) r))
-    | inr c ↦ (let o = inv.running k x a c.1 r in record { setup = o.setup; server = o.server; start = o.start; node = o.node; life = o.life; begun = o.begun })
+    | inr c ↦ (let o = inv.running k x a c.1 r in record { setup = o.setup; server = o.server; start = o.start; node = o.node; life = o.life; begun = o.begun; settled = o.settled })
   ];
   runs = λ k x q. elim (put_cases y w k x q) [
     | inl c ↦ subst (λ d. running_in w.past k ≡ inc_of d.running) c.1 (subst (λ d. running_in w.past d ≡ None) c.0 (inv.unknown n new).0)
@@ -109,7 +109,7 @@ pub nothing_keeps : (t : Setup) (w : World) (v : nodes.World) → Inv t w v → 
 nothing_keeps t w v inv = record {
   run = inv.run;
   ended = inv.ended;
-  running = λ k x a q r. let o = inv.running k x a q r in record { setup = o.setup; server = o.server; start = o.start; node = o.node; life = o.life; begun = o.begun };
+  running = λ k x a q r. let o = inv.running k x a q r in record { setup = o.setup; server = o.server; start = o.start; node = o.node; life = o.life; begun = o.begun; settled = o.settled };
   runs = inv.runs;
   stored = inv.stored;
   unknown = inv.unknown;
@@ -134,7 +134,7 @@ stopped_keeps t w v inv n s at_it = record {
   ended = inv.ended;
   running = λ k x a q r. elim (put_cases y w k x q) [
     | inl c ↦ absurd (some_none a (sym (subst (λ d. d.running ≡ Some a) (sym c.1) r)))
-    | inr c ↦ (let o = inv.running k x a c.1 r in record { setup = o.setup; server = o.server; start = o.start; node = o.node; life = o.life; begun = o.begun })
+    | inr c ↦ (let o = inv.running k x a c.1 r in record { setup = o.setup; server = o.server; start = o.start; node = o.node; life = o.life; begun = o.begun; settled = o.settled })
   ];
   runs = λ k x q. elim (put_cases y w k x q) [
     | inl c ↦ subst (λ d. running_in past k ≡ inc_of d.running) c.1 (ap (λ b. elim b [ true ↦ None | false ↦ running_in w.past k ]) (eq-eqb s.number k c.0))
@@ -193,7 +193,7 @@ written_keeps t w v inv n s at_it idle item row = record {
   ended = inv.ended;
   running = λ k z a q r. elim (put_cases y w k z q) [
     | inl c ↦ absurd (some_none a (sym (subst (λ d. d.running ≡ Some a) (sym c.1) r) ∙ idle))
-    | inr c ↦ (let o = inv.running k z a c.1 r in record { setup = o.setup; server = o.server; start = o.start; node = o.node; life = o.life; begun = o.begun })
+    | inr c ↦ (let o = inv.running k z a c.1 r in record { setup = o.setup; server = o.server; start = o.start; node = o.node; life = o.life; begun = o.begun; settled = o.settled })
   ];
   runs = λ k z q. elim (put_cases y w k z q) [
     | inl c ↦ subst (λ d. running_in w.past k ≡ inc_of d.running) c.1 (subst (λ d. running_in w.past d ≡ inc_of s.running) (sym (number_of w n s at_it) ∙ c.0) (inv.runs n s at_it))
@@ -251,7 +251,7 @@ started_keeps t w v inv n s at_it idle via = (after, record {
     | inl c ↦ subst (λ d. IsRunning t next after d b) c.1 (subst (λ d. IsRunning t next after y d) (some_is (subst (λ d. d.running ≡ Some b) (sym c.1) r)) run_here)
     | inr c ↦ (let o = inv.running k z b c.1 r in
       let apart : inc_eq j.inc b.me.inc ≡ false = of_server k z b c.1 r c.0 in
-      record { setup = o.setup; server = o.server; start = o.start; node = put_there v.at j.inc b.me.inc (joiner (group_of t) j.inc) apart ∙ o.node; life = life_of_others j.inc b.me.inc a.life w.past apart ∙ o.life; begun = o.begun })
+      record { setup = o.setup; server = o.server; start = o.start; node = put_there v.at j.inc b.me.inc (joiner (group_of t) j.inc) apart ∙ o.node; life = life_of_others j.inc b.me.inc a.life w.past apart ∙ o.life; begun = o.begun; settled = o.settled })
   ];
   runs = λ k z q. elim (put_cases y w k z q) [
     | inl c ↦ subst (λ d. running_in past k ≡ inc_of d.running) c.1 (subst (λ d. running_in past d ≡ Some j.inc) c.0 (ap (λ b. elim b [ true ↦ Some j.inc | false ↦ running_in (Does j.inc (Starts s.stored) ∷ w.past) s.number ]) (eq-eqb s.number s.number refl)))
@@ -355,7 +355,7 @@ started_keeps t w v inv n s at_it idle via = (after, record {
     begun = (y, put_same y w, omega arith)
 
     run_here : IsRunning t next after y a
-    run_here = record { setup = refl; server = refl; start = refl; node = put_here v.at j.inc (joiner (group_of t) j.inc); life = life_here; begun = omega arith }
+    run_here = record { setup = refl; server = refl; start = refl; node = put_here v.at j.inc (joiner (group_of t) j.inc); life = life_here; begun = omega arith; settled = refl }
 
     of_server : (k : ℕ) (x : Server) (b : Member) → server_at w k ≡ Some x → x.running ≡ Some b → (s.number == k) ≡ false → inc_eq j.inc b.me.inc ≡ false
     of_server k x b q r z = elim (cases_Bool (inc_eq j.inc b.me.inc)) [

@@ -26,7 +26,7 @@ use Rattle.group_rules.specs.Steps.{group_of, step}
 use Rattle.group_rules.specs.Histories.{message_lt, message_eq, with_message, arranged}
 use Rattle.group_rules.specs.World.{World, Server, Past, Does, Writes, Halts, life_in, nothing_stored, server_at, put_server, put_member, happens, dids, stepped}
 use Rattle.group_rules.specs.Legal.{IsPast, WasMade}
-use Rattle.group_bridge.specs.Left.{IsSent, taken_left}
+use Rattle.group_bridge.specs.Left.{is_settled, IsAfterAll, IsSent, taken_left}
 use Rattle.group_bridge.specs.Moves.{is_apart, is_ask_or_give, slots_in, Each, IsAllowed, TookBy, TookRightly, SentBy, GreetedBy, IsActs, StepIsActs, cleared}
 use Rattle.group_runs.specs.Runs.{as_sent, is_founder, running_in, stored_in, WasGreeted, WasTold, WasSentAs, WasSent, AllDid, IsActive, ByRules, IsDone, IsNodeRun, TookIn, TookThen, OfSlots, HeardIn}
 use Rattle.group_runs.proofs.Pasts.{inc_same, inc_is, take_more, in_left, in_right, in_either, in_map, life_of_dids, life_of_others, running_of_dids, running_of_others, past_of_more, past_grows, made_grows, did_map, did_more}
@@ -213,6 +213,7 @@ record Acting (t : Setup) (w : World) (v : nodes.World) (s : Server) (n : Node) 
   joins : (m : Message) → In m (f n).sent → is_joining m.wire ≡ false
   life : life_in w.past g.me.inc ≡ g.life
   begun : 1 < length g.life
+  settled : is_settled g.me.inc g.life ≡ true
   setup : g.setup ≡ t
   server : g.me.inc.server ≡ s.number
   start : g.me.inc.start ≡ s.starts
@@ -314,46 +315,56 @@ module _ (t : Setup) (w : World) (v : nodes.World) (inv : Inv t w v) (number : �
 
   -- ---- what was done
 
-  done_here : (d : Did) (rest : Life) → IsAllowed e g.setup i d (rest ++ g.life) → IsDone t (dids i rest ++ w.past) i d
-  done_here d rest h = go d allowed
+  abbrev Allowed : Did → Life → Type 0
+  Allowed d l = IsAllowed e g.setup i d l × IsAfterAll i d l
+
+  done_here : (d : Did) (rest : Life) → Allowed d (rest ++ g.life) → IsDone t (dids i rest ++ w.past) i d
+  done_here d rest h = go d allowed after_all
     where
       p : Past
       p = dids i rest ++ w.past
 
-      run : IsActive (dids i rest ++ w.past) i
-      run = record { running = running_of_dids i rest w.past a.runs; begun = subst (λ l. 1 < length l) (sym (life_here rest)) (longer rest g.life a.begun) }
+      run : (x : Did) → IsAfterAll i x (life_in (dids i rest ++ w.past) i) → IsActive (dids i rest ++ w.past) i x
+      run x z = record { running = running_of_dids i rest w.past a.runs; begun = subst (λ l. 1 < length l) (sym (life_here rest)) (longer rest g.life a.begun); settled = z }
+
+      after_all : IsAfterAll i d (life_in (dids i rest ++ w.past) i)
+      after_all = subst (λ l. IsAfterAll i d l) (sym (life_here rest)) h.1
 
       allowed : IsAllowed e t i d (life_in (dids i rest ++ w.past) i)
-      allowed = subst (λ l. IsAllowed e t i d l) (sym (life_here rest)) (subst (λ y. IsAllowed e y i d (rest ++ g.life)) a.setup h)
+      allowed = subst (λ l. IsAllowed e t i d l) (sym (life_here rest)) (subst (λ y. IsAllowed e y i d (rest ++ g.life)) a.setup h.0)
 
-      go : (x : Did) → IsAllowed e t i x (life_in (dids i rest ++ w.past) i) → IsDone t (dids i rest ++ w.past) i x
-      go Founds k = absurd k
-      go (Starts x) k = absurd k
-      go (Came (Hears m)) k = let z = wired m (sym k) in (run, z.1, sent_grows t (dids i rest) w.past m (inv.told m z.0))
-      go (Came Ticks) k = (run, (e, k))
-      go (Came (Works n x)) k = (run, (e, k))
-      go (Came (Calls n r)) k = (run, (e, k))
-      go (Came (Operates o)) k = (run, (e, k))
-      go (Is x c) k = inr (run, (e, k))
-      go (Made v h) k = (run, (e, k))
-      go (Done n) k = (run, (e, k))
-      go (Committed x) k = (run, (e, k))
-      go (Gave n m) k = (run, (e, k))
-      go (Answered s x) k = (run, (e, k))
-      go (Begun s x y) k = (run, (e, k))
-      go (Changed s c) k = (run, (e, k))
-      go (Replied r) k = (run, (e, k))
-      go (Called s v w) k = (run, (e, k))
-      go (AsksCommit s j) k = (run, (e, k))
-      go (Ends s) k = (run, (e, k))
-      go (Enters w) k = (run, (e, k))
-      go (Restores x cs) k = (run, (e, k))
-      go AskFails k = (run, (e, k))
-      go (Took x) k = (run, (e, k))
-      go (Skips x y) k = (run, (e, k))
+      go : (x : Did) → IsAllowed e t i x (life_in (dids i rest ++ w.past) i) → IsAfterAll i x (life_in (dids i rest ++ w.past) i) → IsDone t (dids i rest ++ w.past) i x
+      go Founds k z = absurd k
+      go (Starts x) k z = absurd k
+      go (Came (Hears m)) k z = let y = wired m (sym k) in (run (Came (Hears m)) z, y.1, sent_grows t (dids i rest) w.past m (inv.told m y.0))
+      go (Came Ticks) k z = (run (Came Ticks) z, (e, k))
+      go (Came (Works n x)) k z = (run (Came (Works n x)) z, (e, k))
+      go (Came (Calls n r)) k z = (run (Came (Calls n r)) z, (e, k))
+      go (Came (Operates o)) k z = (run (Came (Operates o)) z, (e, k))
+      go (Is x c) k z = inr (run (Is x c) z, (e, k))
+      go (Made v h) k z = (run (Made v h) z, (e, k))
+      go (Done n) k z = (run (Done n) z, (e, k))
+      go (Committed x) k z = (run (Committed x) z, (e, k))
+      go (Gave n m) k z = (run (Gave n m) z, (e, k))
+      go (Answered s x) k z = (run (Answered s x) z, (e, k))
+      go (Begun s x y) k z = (run (Begun s x y) z, (e, k))
+      go (Changed s c) k z = (run (Changed s c) z, (e, k))
+      go (Replied r) k z = (run (Replied r) z, (e, k))
+      go (Called s v w) k z = (run (Called s v w) z, (e, k))
+      go (AsksCommit s j) k z = (run (AsksCommit s j) z, (e, k))
+      go (Ends s) k z = (run (Ends s) z, (e, k))
+      go (Enters w) k z = (run (Enters w) z, (e, k))
+      go (Restores x cs) k z = (run (Restores x cs) z, (e, k))
+      go AskFails k z = (run AskFails z, (e, k))
+      go (Took x) k z = (run (Took x) z, (e, k))
+      go (Skips x y) k z = (run (Skips x y) z, (e, k))
 
   all_done : AllDid (IsDone t) past
-  all_done = did_more (IsDone t) (IsAllowed e g.setup i) i g.life w.past done_here acts.more acts.allowed inv.done
+  all_done = did_more (IsDone t) Allowed i g.life w.past done_here acts.more (both acts.more acts.allowed (acts.settled a.settled).1) inv.done
+    where
+      both : (xs : Life) → Each (IsAllowed e g.setup i) xs g.life → Each (IsAfterAll i) xs g.life → Each Allowed xs g.life
+      both [] h k = tt
+      both (d ∷ xs) h k = ((h.0, k.0), both xs h.1 k.1)
 
   -- ---- messages
 
@@ -493,6 +504,7 @@ module _ (t : Setup) (w : World) (v : nodes.World) (inv : Inv t w v) (number : �
     node = ap (λ j. after.at j.inc) acts.me ∙ (put_here v.at i (nodes.does_all i acts.acts (f n).node).node ∙ ap Some (ap (λ y. (nodes.does_all i acts.acts y).node) (sym a.node) ∙ sym acts.node));
     life = ap (λ j. life_in past j.inc) acts.me ∙ (life_here acts.more ∙ sym acts.grown);
     begun = subst (λ l. 1 < length l) (sym acts.grown) (longer acts.more g.life a.begun);
+    settled = subst (λ j. is_settled j.inc b.life ≡ true) (sym acts.me) (acts.settled a.settled).0;
   }
 
   all_running : (k : ℕ) (x : Server) (y : Member) → server_at next k ≡ Some x → x.running ≡ Some y → IsRunning t next after x y
@@ -500,7 +512,7 @@ module _ (t : Setup) (w : World) (v : nodes.World) (inv : Inv t w v) (number : �
     | inl z ↦ subst (λ c. IsRunning t next after c y) z.1 (subst (λ c. IsRunning t next after put c) (some_is (subst (λ c. c.running ≡ Some y) (sym z.1) r)) run_here)
     | inr z ↦ (let o = inv.running k x y z.1 r in
       let apart : inc_eq i y.me.inc ≡ false = of_server k x y z.1 r z.0 in
-      record { setup = o.setup; server = o.server; start = o.start; node = put_there v.at i y.me.inc _ apart ∙ o.node; life = life_of_others i y.me.inc acts.more w.past apart ∙ o.life; begun = o.begun })
+      record { setup = o.setup; server = o.server; start = o.start; node = put_there v.at i y.me.inc _ apart ∙ o.node; life = life_of_others i y.me.inc acts.more w.past apart ∙ o.life; begun = o.begun; settled = o.settled })
   ]
 
   all_runs : (k : ℕ) (x : Server) → server_at next k ≡ Some x → running_in past k ≡ inc_of x.running
@@ -593,6 +605,7 @@ module _ (t : Setup) (named : Laws t) (takes_none : HearingTakesNone) (greets_no
         joins = joins;
         life = ap (λ j. life_in w.past j.inc) me ∙ (o.life ∙ sym life);
         begun = subst (λ l. 1 < length l) (sym life) o.begun;
+        settled = subst (λ j. is_settled j.inc g.life ≡ true) (sym me) (subst (λ l. is_settled a.me.inc l ≡ true) (sym life) o.settled);
         setup = setup ∙ o.setup;
         server = ap (λ j. j.inc.server) me ∙ o.server;
         start = ap (λ j. j.inc.start) me ∙ o.start;

@@ -27,7 +27,7 @@ use Rattle.group_rules.specs.Steps.{group_of}
 use Rattle.order_laws.specs.Laws.{slots_by}
 use Rattle.group_rules.specs.World.{World, Move, world_after, Past, Does, Writes, Halts, life_in, nothing_stored, committed_of}
 use Rattle.group_rules.specs.Legal.{IsPast, WasMade}
-use Rattle.group_bridge.specs.Left.{IsSent, taken_left}
+use Rattle.group_bridge.specs.Left.{IsAfterAll, IsSent, taken_left}
 use Rattle.group_bridge.specs.Moves.{is_apart, IsAllowed, slots_in}
 
 -- ---- the founding
@@ -104,14 +104,15 @@ AllDid P [] = Unit {0}
 AllDid P (Does i d ∷ p) = P p i d × AllDid P p
 AllDid P (x ∷ p) = AllDid P p
 
--- it runs, and has its first state
-pub record IsActive (p : Past) (i : Inc) : Type 0 where
+-- it runs and has its first state, and has the own state that comes with what it took last
+pub record IsActive (p : Past) (i : Inc) (d : Did) : Type 0 where
   pub running : running_in p i.server ≡ Some i
   pub begun : 1 < length (life_in p i)
+  pub settled : IsAfterAll i d (life_in p i)
 
 -- the rules allow it by what the incarnation had done before, in the step for some event
 abbrev pub ByRules : Setup → Past → Inc → Did → Type 0
-ByRules t p i d = IsActive p i × ((e : Event) × IsAllowed e t i d (life_in p i))
+ByRules t p i d = IsActive p i d × ((e : Event) × IsAllowed e t i d (life_in p i))
 
 -- the first state
 abbrev pub IsFirst : Life → MemberState → Type 0
@@ -121,7 +122,7 @@ IsFirst l x = ((l ≡ Founds ∷ []) × (x ≡ Online)) ⊎ ((y : Stored) × (l 
 abbrev pub IsDone : Setup → Past → Inc → Did → Type 0
 IsDone t p i Founds = (running_in p i.server ≡ None) × (life_in p i ≡ []) × (is_founder t i ≡ true)
 IsDone t p i (Starts x) = (running_in p i.server ≡ None) × (life_in p i ≡ []) × (is_founder t i ≡ false) × (x ≡ stored_in p i.server)
-IsDone t p i (Came (Hears m)) = IsActive p i × (m.to ≡ i) × WasSent t p m
+IsDone t p i (Came (Hears m)) = IsActive p i (Came (Hears m)) × (m.to ≡ i) × WasSent t p m
 IsDone t p i (Is x c) = ((running_in p i.server ≡ Some i) × IsFirst (life_in p i) x) ⊎ ByRules t p i (Is x c)
 IsDone t p i d = ByRules t p i d
 
