@@ -9,19 +9,14 @@ use Rattle.node_rules.specs.Lists.{In}
 use Rattle.node_rules.specs.Chosen.{IsChosenLog}
 use Rattle.node_rules.specs.World as nodes
 use Rattle.order_laws.specs.Laws.{InEveryRun, OneLog, KeptAsInLog}
-use Rattle.group_rules.specs.Events.{Setup}
+use Rattle.gr_ids.specs.declared.names.Inc.{Inc}
+use Rattle.group_rules.specs.Events.{Did, Founds, Starts, Came, Made, Took, Skips, Done, Committed, Is, Gave, Answered, Begun, Changed, Replied, Called, AsksCommit, Ends, Enters, Restores, AskFails, Setup}
+use Rattle.group_rules.specs.World.{Past, Does, Writes, Halts, world_after}
 use Rattle.group_rules.specs.Steps.{group_of}
 use Rattle.group_rules.specs.OneList.{reading_of, value_at, before_slot}
-use Rattle.group_runs.specs.Runs.{as_sent, IsSetup, IsNodeRun}
+use Rattle.group_runs.specs.Runs.{as_sent, IsSetup, IsNodeRun, AllDid, TookIn, OfSlots, OfNodes, EveryRun}
+use Rattle.group_order.specs.OneLog.{OnLog, LeftBy, EveryRunHasOne}
 use Rattle.group_order.proofs.Flips.{flip, flip_flip, flip_length, read_flip, get_flip, take_flip, front_of, get_take, take_less, take_whole, get_end, value_past}
-
--- what was taken stands in the log, and became what it becomes there
-pub record OnLog (t : Setup) (log : List Value) (y : Taken) : Type 0 where
-  pub before : ℕ
-  pub slot : y.slot ≡ suc before
-  pub within : before < length log
-  pub value : value_at log y.slot ≡ Some y.value
-  pub kept : y.kept ≡ became (reading_of t (before_slot log y.slot)) y.value
 
 pub record LogOf (t : Setup) (v : nodes.World) (log : List Value) : Type 0 where
   pub chosen : IsChosenLog (group_of t) v.cast (flip log)
@@ -127,3 +122,43 @@ module _ (t : Setup) (good : IsSetup t) (v : nodes.World) (run : IsNodeRun t v) 
 
           len : length ys ≡ ((greatest x xs).0).taken.slot
           len = let a = length-append (kept_here (greatest x xs).0 there).0 (((greatest x xs).0).taken.value ∷ []) in let b = (kept_here (greatest x xs).0 there).2 in omega (arith, a, b)
+
+-- ---- what was left of them
+
+module _ (t : Setup) (v : nodes.World) (log : List Value) (of : LogOf t v log) where
+  left_one : (p : Past) (i : Inc) (d : Did) → TookIn t v p i d → LeftBy t log p i d
+  left_one p i d h = (h.0, h.2, of.took (record { by = i; taken = h.0 }) h.1)
+
+  left_so : (p : Past) (i : Inc) (d : Did) → OfSlots (TookIn t v) p i d → OfSlots (LeftBy t log) p i d
+  left_so p i (Took x) h = left_one p i (Took x) h
+  left_so p i (Skips s u) h = left_one p i (Skips s u) h
+  left_so p i Founds z = tt
+  left_so p i (Starts x) z = tt
+  left_so p i (Came x) z = tt
+  left_so p i (Made v h) z = tt
+  left_so p i (Done n) z = tt
+  left_so p i (Committed g) z = tt
+  left_so p i (Is s c) z = tt
+  left_so p i (Gave n m) z = tt
+  left_so p i (Answered s x) z = tt
+  left_so p i (Begun s x y) z = tt
+  left_so p i (Changed s c) z = tt
+  left_so p i (Replied r) z = tt
+  left_so p i (Called s v w) z = tt
+  left_so p i (AsksCommit s j) z = tt
+  left_so p i (Ends s) z = tt
+  left_so p i (Enters w) z = tt
+  left_so p i (Restores g cs) z = tt
+  left_so p i AskFails z = tt
+
+  left_all : (p : Past) → AllDid (OfSlots (TookIn t v)) p → AllDid (OfSlots (LeftBy t log)) p
+  left_all [] h = tt
+  left_all (Does i d ∷ p) h = (left_so p i d h.0, left_all p h.1)
+  left_all (Writes n x ∷ p) h = left_all p h
+  left_all (Halts n ∷ p) h = left_all p h
+
+pub every_run_has_one : EveryRun → InEveryRun OneLog → InEveryRun KeptAsInLog → EveryRunHasOne
+every_run_has_one runs one kept ms t q good =
+    let x : OfNodes t (world_after ms) = runs ms t q good in
+    let l = the_log t good x.nodes x.run one kept in
+    (l.0, left_all t x.nodes l.0 l.1 (world_after ms).past x.took)
