@@ -8,7 +8,7 @@ use Rattle.gr_ids.specs.declared.names.Inc.{Inc}
 use Rattle.gr_ids.specs.declared.names.Gtid.{Gtid}
 use Rattle.gr_ids.specs.declared.names.ValueId.{ValueId}
 use Rattle.gr_ids.specs.declared.levels.Level.{Level}
-use Rattle.gr_ids.specs.declared.levels.MemberState.TheVariants.{Recovering, Error}
+use Rattle.gr_ids.specs.declared.levels.MemberState.TheVariants.{Error}
 use Rattle.gtid_sets.specs.Sets.{Gtids, has, minus, with_gtid}
 use Rattle.key_items.specs.declared.change.Change.{Change}
 use Rattle.key_items.specs.declared.change.ChangeKind.{ChangeKind}
@@ -33,7 +33,7 @@ use Rattle.group_rules.specs.declared.answers.Holder.{Holder}
 use Rattle.group_rules.specs.declared.answers.Answer.{Answer}
 use Rattle.group_rules.specs.declared.answers.Answer.TheVariants.{Held, Got, Sent, CommittedEmpty, Committed as CommittedAs, RolledBack, Busy, NoTransaction, NotOnline, RowLocked, Killed, Conflict as ConflictWith, HoldTimeout, MemberLeft}
 use Rattle.group_rules.specs.declared.marks.Cause.{Cause}
-use Rattle.group_rules.specs.declared.marks.Cause.TheVariants.{Welcomed, Majority as NoMajority, Extra, NoDonor}
+use Rattle.group_rules.specs.declared.marks.Cause.TheVariants.{Majority as NoMajority, Extra, NoDonor}
 use Rattle.group_rules.specs.declared.marks.Reply.TheVariants.{Sent as SentAs, Ballot as AtBallot, Asked, Failed, Finished, NotOnline as IsNotOnline, NoAskDue, NoAskPending, NotQueued, AlreadyDone}
 use Rattle.node_rules.specs.declared.event.PaxosEvent.TheVariants.{Own, Tick, Campaign as CampaignEvent}
 use Rattle.node_rules.specs.Node.{quiet}
@@ -41,7 +41,7 @@ use Rattle.node_rules.specs.Step.{node_step}
 use Rattle.node_rules.specs.World.{Campaigns, Proposes}
 use Rattle.node_rules.specs.World.{Ticks as NodeTicks}
 use Rattle.group_rules.specs.View.{seated}
-use Rattle.group_rules.specs.Events.{Came, Done, Made, Committed, Is, Gave, Answered, Begun, Changed, Replied, Called, AsksCommit, Ends, Enters, Restores, AskFails, Event, Hears, Ticks, Works, Calls, Operates, Life, Entry, Cert}
+use Rattle.group_rules.specs.Events.{Came, Done, Made, Committed, Is, Gave, Answered, Begun, Changed, Replied, Called, AsksCommit, Ends, Restores, AskFails, Event, Hears, Ticks, Works, Calls, Operates, Life, Entry, Cert}
 use Rattle.group_rules.specs.Life.{state, is_up, is_offline, is_recovering, executed, view, certs, last_made, ticks, entry_at, entered, has_give}
 use Rattle.group_rules.specs.Watch.{Watch, watch}
 use Rattle.group_rules.specs.Member.{Member, push, by_node, at_node, own, own_body, next_id, answer, last_answer, for_each, leave_session, fall, unanswered, waiting_as}

@@ -12,7 +12,7 @@ use Rattle.gr_ids.specs.declared.names.Inc.{Inc}
 use Rattle.gr_ids.specs.declared.names.ValueId.{ValueId}
 use Rattle.gr_ids.specs.declared.names.Gtid.{Gtid}
 use Rattle.gr_ids.specs.declared.levels.MemberState.{MemberState}
-use Rattle.gr_ids.specs.declared.levels.MemberState.TheVariants.{Online, Recovering, Error}
+use Rattle.gr_ids.specs.declared.levels.MemberState.TheVariants.{Online, Error}
 use Rattle.key_items.specs.declared.change.Change.{Change}
 use Rattle.slot_values.specs.declared.value.Value.{Value}
 use Rattle.slot_values.specs.declared.value.What.TheVariants.{Body as Says}

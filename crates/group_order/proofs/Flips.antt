@@ -1,10 +1,10 @@
 -- A log stands newest first in the rules of the group, and oldest first in those of a node.
-use Rattle.std.proofs.Common.{eqb, eq-eqb, leb, ltb, append_assoc, append-nil, ◌≡◌, ◌⊎◌, inl, inr, ℕ, zero, suc, ◌+◌, ◌-◌, ◌≤◌, ◌<◌, Bool, true, false, Option, Some, None, List, [], ◌∷◌, ◌++◌, refl, sym, ap, subst, ◌∙◌, length, take, length-append, arith}
-use Rattle.std.specs.Prelude.{slice_get, fold, ◌==◌, nat_le}
+use Rattle.std.proofs.Common.{eqb, eq-eqb, leb, ltb, append_assoc, append-nil, ◌≡◌, inl, inr, ℕ, zero, suc, ◌+◌, ◌≤◌, ◌<◌, true, false, Some, None, List, [], ◌∷◌, ◌++◌, refl, sym, ap, ◌∙◌, length, take, length-append, arith}
+use Rattle.std.specs.Prelude.{slice_get, ◌==◌}
 use Rattle.std.proofs.lemmas.Bool.{false≢true, cases_Bool, eqb-true, leb-true, leb-false, le-leb}
 use Rattle.std.proofs.lemmas.List.Sums.{fold-append}
 use Rattle.slot_values.specs.declared.value.Value.{Value}
-use Rattle.slot_values.specs.Log.{Group, Reading, founded, read, after}
+use Rattle.slot_values.specs.Log.{founded, read, after}
 use Rattle.group_rules.specs.Events.{Setup}
 use Rattle.group_rules.specs.Steps.{group_of}
 use Rattle.group_rules.specs.OneList.{reading_of, value_at, before_slot}
@@ -65,16 +65,16 @@ pub get_flip : (l : List Value) (k : ℕ) → slice_get (flip l) k ≡ value_at 
 get_flip [] k = refl
 get_flip (v ∷ l) k = elim (cases_Bool (ltb k (length l))) [
   | inl h ↦ (let lt : k < length l = leb-true (suc k) (length l) h in
-    let len = flip_length l in
-    get_front (flip l) (v ∷ []) k (omega (arith, lt, len)) ∙ (get_flip l k ∙ sym (value_below v l (suc k) (omega (arith, lt)))))
+      let len = flip_length l in
+      get_front (flip l) (v ∷ []) k (omega (arith, lt, len)) ∙ (get_flip l k ∙ sym (value_below v l (suc k) (omega (arith, lt)))))
   | inr h ↦ elim (cases_Bool (eqb k (length l))) [
     | inl q ↦ (let e : k ≡ length l = eqb-true k (length l) q in
-      let len = flip_length l in
-      ap (λ z. slice_get (flip l ++ v ∷ []) z) (e ∙ sym len) ∙ (get_last (flip l) v ∙ (sym (value_here v l) ∙ ap (λ z. value_at (v ∷ l) (suc z)) (sym e))))
+        let len = flip_length l in
+        ap (λ z. slice_get (flip l ++ v ∷ []) z) (e ∙ sym len) ∙ (get_last (flip l) v ∙ (sym (value_here v l) ∙ ap (λ z. value_at (v ∷ l) (suc z)) (sym e))))
     | inr q ↦ (let ge : length l < suc k = leb-false (suc k) (length l) h in
-      let ne : length l < k = omega (arith, ge, not_equal k (length l) q) in
-      let len = flip_length (v ∷ l) in
-      get_past (flip (v ∷ l)) k (omega (arith, ne, len)) ∙ sym (value_past (v ∷ l) (suc k) (omega (arith, ne))))
+        let ne : length l < k = omega (arith, ge, not_equal k (length l) q) in
+        let len = flip_length (v ∷ l) in
+        get_past (flip (v ∷ l)) k (omega (arith, ne, len)) ∙ sym (value_past (v ∷ l) (suc k) (omega (arith, ne))))
   ]
 ]
   where
@@ -108,11 +108,11 @@ pub take_flip : (l : List Value) (n : ℕ) → flip (before_slot l (suc n)) ≡ 
 take_flip [] n = sym (take_all [] n (omega arith))
 take_flip (v ∷ l) n = elim (cases_Bool (leb n (length l))) [
   | inl h ↦ (let le : n ≤ length l = leb-true n (length l) h in
-    let len = flip_length l in
-    ap flip (before_above v l (suc n) (omega (arith, le))) ∙ (take_flip l n ∙ sym (take_front (flip l) (v ∷ []) n (omega (arith, le, len)))))
+      let len = flip_length l in
+      ap flip (before_above v l (suc n) (omega (arith, le))) ∙ (take_flip l n ∙ sym (take_front (flip l) (v ∷ []) n (omega (arith, le, len)))))
   | inr h ↦ (let gt : length l < n = leb-false n (length l) h in
-    let len = flip_length (v ∷ l) in
-    ap flip (before_all (v ∷ l) (suc n) (omega (arith, gt))) ∙ sym (take_all (flip (v ∷ l)) n (omega (arith, gt, len))))
+      let len = flip_length (v ∷ l) in
+      ap flip (before_all (v ∷ l) (suc n) (omega (arith, gt))) ∙ sym (take_all (flip (v ∷ l)) n (omega (arith, gt, len))))
 ]
 
 -- the length of the log before a slot
@@ -131,15 +131,15 @@ before_next [] n v h = absurd (no_value h)
     no_value e = absurd (cc e)
 before_next (u ∷ l) n v h = elim (cases_Bool (leb (suc n) (length l))) [
   | inl q ↦ (let le : suc n ≤ length l = leb-true (suc n) (length l) q in
-    before_above u l (suc (suc n)) (omega (arith, le)) ∙ (before_next l n v (sym (value_below u l (suc n) le) ∙ h) ∙ ap (λ z. v ∷ z) (sym (before_above u l (suc n) (omega (arith, le))))))
+      before_above u l (suc (suc n)) (omega (arith, le)) ∙ (before_next l n v (sym (value_below u l (suc n) le) ∙ h) ∙ ap (λ z. v ∷ z) (sym (before_above u l (suc n) (omega (arith, le))))))
   | inr q ↦ (let gt : length l < suc n = leb-false (suc n) (length l) q in
-    elim (cases_Bool (eqb n (length l))) [
-      | inl e ↦ (let same : n ≡ length l = eqb-true n (length l) e in
-        let is_v : Some u ≡ Some v = sym (value_here u l) ∙ (ap (λ z. value_at (u ∷ l) (suc z)) (sym same) ∙ h) in
-        let uv : u ≡ v = cc in
-        before_all (u ∷ l) (suc (suc n)) (omega (arith, same)) ∙ (ap (λ z. z ∷ l) uv ∙ ap (λ z. v ∷ z) (sym (before_above u l (suc n) (omega (arith, same)) ∙ before_all l (suc n) (omega (arith, same))))))
-      | inr e ↦ absurd (absent (omega (arith, gt, not_equal e)))
-    ])
+      elim (cases_Bool (eqb n (length l))) [
+        | inl e ↦ (let same : n ≡ length l = eqb-true n (length l) e in
+            let is_v : Some u ≡ Some v = sym (value_here u l) ∙ (ap (λ z. value_at (u ∷ l) (suc z)) (sym same) ∙ h) in
+            let uv : u ≡ v = cc in
+            before_all (u ∷ l) (suc (suc n)) (omega (arith, same)) ∙ (ap (λ z. z ∷ l) uv ∙ ap (λ z. v ∷ z) (sym (before_above u l (suc n) (omega (arith, same)) ∙ before_all l (suc n) (omega (arith, same))))))
+        | inr e ↦ absurd (absent (omega (arith, gt, not_equal e)))
+      ])
 ]
   where
     not_equal : eqb n (length l) ≡ false → n ≡ length l → ⊥

@@ -1,2 +1,4 @@
 mod Flips
 mod Logs
+mod Incs
+mod Shapes

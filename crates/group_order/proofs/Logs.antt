@@ -1,10 +1,9 @@
 -- The slots that were taken in a run of the nodes are those of one log.
-use Rattle.std.proofs.Common.{eqb, leb, append_assoc, ◌≡◌, ◌⊎◌, inl, inr, ℕ, zero, suc, ◌+◌, ◌-◌, ◌≤◌, ◌<◌, Bool, true, false, Option, Some, None, List, [], ◌∷◌, ◌++◌, refl, sym, ap, subst, ◌∙◌, length, take, length-append, arith}
+use Rattle.std.proofs.Common.{leb, ◌≡◌, inl, inr, suc, ◌≤◌, ◌<◌, Bool, true, false, Some, None, List, [], ◌∷◌, ◌++◌, refl, sym, ap, subst, ◌∙◌, length, take, length-append, arith}
 use Rattle.std.specs.Prelude.{slice_get}
-use Rattle.std.proofs.lemmas.Bool.{false≢true, cases_Bool, leb-true, leb-false}
+use Rattle.std.proofs.lemmas.Bool.{leb-true, leb-false}
 use Rattle.slot_values.specs.declared.value.Value.{Value}
 use Rattle.slot_values.specs.Log.{Group, after, became}
-use Rattle.node_rules.specs.declared.taken.Taken.{Taken}
 use Rattle.node_rules.specs.Lists.{In}
 use Rattle.node_rules.specs.Chosen.{IsChosenLog}
 use Rattle.node_rules.specs.World as nodes
@@ -16,7 +15,7 @@ use Rattle.group_rules.specs.Steps.{group_of}
 use Rattle.group_rules.specs.OneList.{reading_of, value_at, before_slot}
 use Rattle.group_runs.specs.Runs.{as_sent, IsSetup, IsNodeRun, AllDid, TookIn, OfSlots, OfNodes, EveryRun}
 use Rattle.group_order.specs.OneLog.{OnLog, LeftBy, EveryRunHasOne}
-use Rattle.group_order.proofs.Flips.{flip, flip_flip, flip_length, read_flip, get_flip, take_flip, front_of, get_take, take_less, take_whole, get_end, value_past}
+use Rattle.group_order.proofs.Flips.{flip, flip_flip, flip_length, read_flip, get_flip, take_flip, front_of, get_take, take_less, take_whole, get_end}
 
 pub record LogOf (t : Setup) (v : nodes.World) (log : List Value) : Type 0 where
   pub chosen : IsChosenLog (group_of t) v.cast (flip log)
@@ -50,8 +49,6 @@ module _ (t : Setup) (good : IsSetup t) (v : nodes.World) (run : IsNodeRun t v) 
   on_log : (xs : List Value) → IsChosenLog (group_of t) v.cast xs → (y : nodes.Took) → In y v.took → y.taken.slot ≤ length xs → OnLog t (flip xs) y.taken
   on_log xs p y h le = record { before = length log; slot = slot; within = within; value = value; kept = is_kept }
     where
-
-
       log : List Value
       log = (kept_here y h).0
 
@@ -95,22 +92,26 @@ module _ (t : Setup) (good : IsSetup t) (v : nodes.World) (run : IsNodeRun t v) 
   the_log = go v.took refl
     where
       go : (ts : List nodes.Took) → v.took ≡ ts → (log : List Value) × LogOf t v log
-      go [] e = ([], record {
-        chosen = λ k u q. absurd (no_value u q);
-        took = λ y h. absurd (subst (λ l. In y l) e h);
-        no_longer = λ h. absurd (omega (arith, h));
-      })
+      go [] e = (
+        [],
+        record {
+          chosen = λ k u q. absurd (no_value u q);
+          took = λ y h. absurd (subst (λ l. In y l) e h);
+          no_longer = λ h. absurd (omega (arith, h));
+        },
+      )
         where
           no_value : (u : Value) → None ≡ Some u → ⊥
           no_value u q = absurd (cc q)
-      go (x ∷ xs) e = (flip ys, record {
-        chosen = subst (λ l. IsChosenLog (group_of t) v.cast l) (sym (flip_flip ys)) (kept_here y there).5;
-        took = λ z h. on_log ys (kept_here y there).5 z h (let a = (greatest x xs).2 z (subst (λ l. In z l) e h) in omega (arith, a, len));
-        no_longer = λ h. (y, there, let a = flip_length ys in omega (arith, a, len));
-      })
+      go (x ∷ xs) e = (
+        flip ys,
+        record {
+          chosen = subst (λ l. IsChosenLog (group_of t) v.cast l) (sym (flip_flip ys)) (kept_here y there).5;
+          took = λ z h. on_log ys (kept_here y there).5 z h (let a = (greatest x xs).2 z (subst (λ l. In z l) e h) in omega (arith, a, len));
+          no_longer = λ h. (y, there, let a = flip_length ys in omega (arith, a, len));
+        },
+      )
         where
-
-
           y : nodes.Took
           y = (greatest x xs).0
 

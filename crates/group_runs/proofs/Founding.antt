@@ -1,5 +1,5 @@
 -- The founding: each founder is founded at its server, one after another.
-use Rattle.std.proofs.Common.{eq-eqb, eqb, ◌≡◌, ◌⊎◌, inl, inr, ℕ, ◌≤◌, ◌<◌, Bool, true, false, cond, Option, Some, None, List, [], ◌∷◌, ◌++◌, refl, sym, ap, subst, ◌∙◌, arith}
+use Rattle.std.proofs.Common.{eq-eqb, eqb, ◌≡◌, ◌⊎◌, inl, inr, ℕ, ◌≤◌, Bool, true, false, Some, None, List, [], ◌∷◌, ◌++◌, refl, sym, ap, subst, ◌∙◌, arith}
 use Rattle.std.specs.Prelude.{map, ◌==◌, ◌||◌, if◌then◌else◌}
 use Rattle.std.proofs.lemmas.Bool.{false≢true, cases_Bool, eqb-true}
 use Rattle.gr_ids.specs.Names.{inc_eq, has_inc}
@@ -8,10 +8,10 @@ use Rattle.slot_values.specs.declared.value.Joiner.{Joiner}
 use Rattle.node_rules.specs.Lists.{In}
 use Rattle.node_rules.specs.Node.{founder}
 use Rattle.node_rules.specs.World as nodes
-use Rattle.group_rules.specs.Events.{Did, Founds, Is, Life, Setup}
+use Rattle.group_rules.specs.Events.{Did, Founds, Setup}
 use Rattle.group_rules.specs.Member.{Member}
 use Rattle.group_rules.specs.Steps.{group_of, found}
-use Rattle.group_rules.specs.World.{World, Server, Past, Does, life_in, nothing_stored, server_at, put_server, dids, found_at, found_all}
+use Rattle.group_rules.specs.World.{World, Server, Past, life_in, nothing_stored, server_at, put_server, dids, found_at, found_all}
 use Rattle.group_bridge.specs.Moves.{slots_in}
 use Rattle.group_runs.specs.Runs.{Apart, IsSetup, is_founder, running_in, stored_in, AllDid, IsDone, TookIn, TookThen, OfSlots, HeardIn}
 use Rattle.group_runs.proofs.Pasts.{inc_same, inc_is, life_of_dids, life_of_others, running_of_others, did_map}
@@ -92,8 +92,8 @@ module _ (t : Setup) (good : IsSetup t) where
     running = λ k z b q r. elim (put_cases y w k z q) [
       | inl c ↦ subst (λ d. IsRunning t next v d b) c.1 (subst (λ d. IsRunning t next v y d) (some_is (subst (λ d. d.running ≡ Some b) (sym c.1) r)) run_here)
       | inr c ↦ (let o = p.running k z b c.1 r in
-        let apart : inc_eq j.inc b.me.inc ≡ false = of_server k z b c.1 r c.0 in
-        record { setup = o.setup; server = o.server; start = o.start; node = o.node; life = life_of_others j.inc b.me.inc a.life w.past apart ∙ o.life; begun = o.begun; settled = o.settled })
+          let apart : inc_eq j.inc b.me.inc ≡ false = of_server k z b c.1 r c.0 in
+          record { setup = o.setup; server = o.server; start = o.start; node = o.node; life = life_of_others j.inc b.me.inc a.life w.past apart ∙ o.life; begun = o.begun; settled = o.settled })
     ];
     runs = λ k z q. elim (put_cases y w k z q) [
       | inl c ↦ subst (λ d. running_in past k ≡ inc_of d.running) c.1 (subst (λ d. running_in past d ≡ Some j.inc) c.0 run_now)
@@ -182,9 +182,9 @@ module _ (t : Setup) (good : IsSetup t) where
       of_server : (k : ℕ) (x : Server) (b : Member) → server_at w k ≡ Some x → x.running ≡ Some b → (j.inc.server == k) ≡ false → inc_eq j.inc b.me.inc ≡ false
       of_server k x b q r z = elim (cases_Bool (inc_eq j.inc b.me.inc)) [
         | inl h ↦ (let same : j.inc ≡ b.me.inc = inc_is j.inc b.me.inc h in
-          let o = p.running k x b q r in
-          let m : j.inc.server ≡ k = ap (λ c. c.server) same ∙ (o.server ∙ number_of w k x q) in
-          absurd (false≢true (sym z ∙ eq-eqb j.inc.server k m)))
+            let o = p.running k x b q r in
+            let m : j.inc.server ≡ k = ap (λ c. c.server) same ∙ (o.server ∙ number_of w k x q) in
+            absurd (false≢true (sym z ∙ eq-eqb j.inc.server k m)))
         | inr h ↦ h
       ]
 

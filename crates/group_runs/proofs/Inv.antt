@@ -1,14 +1,14 @@
 -- What holds of the world after every move, beside a run of the world of nodes.
-use Rattle.std.specs.Prelude.{◌≡◌, ◌⊎◌, ◌≤◌, ◌<◌, length, ℕ, Bool, true, false, Option, Some, None, List, [], ◌∷◌}
+use Rattle.std.specs.Prelude.{◌≡◌, ◌⊎◌, ◌≤◌, ◌<◌, length, ℕ, true, Option, Some, None, []}
 use Rattle.gr_ids.specs.declared.names.Inc.{Inc}
 use Rattle.slot_values.specs.declared.value.Value.{Value}
 use Rattle.paxos_forms.specs.declared.message.Message.{Message}
 use Rattle.node_rules.specs.Lists.{In}
 use Rattle.node_rules.specs.World as nodes
 use Rattle.order_laws.specs.Laws.{slots_by}
-use Rattle.group_rules.specs.Events.{Did, Setup, Life}
+use Rattle.group_rules.specs.Events.{Setup}
 use Rattle.group_rules.specs.Member.{Member}
-use Rattle.group_rules.specs.World.{World, Server, Past, server_at, life_in, nothing_stored}
+use Rattle.group_rules.specs.World.{World, Server, server_at, life_in, nothing_stored}
 use Rattle.group_rules.specs.Legal.{WasMade}
 use Rattle.group_bridge.specs.Left.{is_settled}
 use Rattle.group_bridge.specs.Moves.{is_apart, slots_in}

@@ -1,7 +1,7 @@
 -- Every move keeps what holds of the world, so it holds of every run.
-use Rattle.std.proofs.Common.{eq-eqb, eqb, ◌≡◌, ◌⊎◌, inl, inr, ℕ, zero, suc, ◌≤◌, ◌<◌, Bool, true, false, cond, Option, Some, None, List, [], ◌∷◌, ◌++◌, refl, sym, ap, subst, ◌∙◌}
-use Rattle.std.specs.Prelude.{map, ◌==◌, ◌||◌, ◌&&◌, is_some, slice_get}
-use Rattle.std.proofs.lemmas.Bool.{false≢true, cases_Bool, eqb-true}
+use Rattle.std.proofs.Common.{◌≡◌, inl, inr, ℕ, zero, suc, Bool, true, false, Option, Some, None, List, [], ◌∷◌, refl, sym, ap, subst, ◌∙◌}
+use Rattle.std.specs.Prelude.{◌==◌, ◌||◌, is_some, slice_get}
+use Rattle.std.proofs.lemmas.Bool.{false≢true}
 use Rattle.gr_ids.specs.Names.{inc_eq}
 use Rattle.gr_ids.specs.declared.names.Inc.{Inc}
 use Rattle.slot_values.specs.declared.value.Joiner.{Joiner}
@@ -10,18 +10,17 @@ use Rattle.paxos_forms.specs.declared.message.Message.{Message}
 use Rattle.node_rules.specs.Lists.{In}
 use Rattle.node_rules.specs.World as nodes
 use Rattle.order_laws.specs.Laws.{InEveryRun, Named, HearingTakesNone, HearingGreetsNobody}
-use Rattle.group_rules.specs.Events.{Did, Event, Hears, Ticks, Works, Calls, Operates, Setup, Stored}
+use Rattle.group_rules.specs.Events.{Event, Hears, Ticks, Works, Calls, Operates, Setup, Stored}
 use Rattle.group_rules.specs.Member.{Member}
-use Rattle.group_rules.specs.Steps.{group_of, step}
-use Rattle.group_rules.specs.World.{World, Server, Past, Halts, new_world, nothing_stored, server_at, is_declared, running_of, member_at, is_member, runs, is_taken, is_group_taken, put_server, nothing_happens, declare, found_at, found_all, started, start_by, stop, stored_by, written, write_by, stepped, event_by, event_at, take_message, kth, Move, Declares, Founds, Starts, Stops, WritesRow, Takes, Happens, move, world_after, is_group, has_uuid, is_default_of_other}
+use Rattle.group_rules.specs.Steps.{group_of}
+use Rattle.group_rules.specs.World.{World, Server, new_world, nothing_stored, server_at, is_declared, running_of, member_at, is_member, runs, is_taken, is_group_taken, nothing_happens, declare, found_at, found_all, started, start_by, stop, stored_by, written, write_by, event_by, event_at, take_message, kth, Move, Declares, Founds, Starts, Stops, WritesRow, Takes, Happens, move, world_after}
 use Rattle.group_bridge.specs.Moves.{StepIsActs}
 use Rattle.group_runs.specs.Runs.{as_sent, EveryRun, IsSetup, running_in, stored_after, stored_in}
 use Rattle.group_runs.proofs.Pasts.{inc_is}
-use Rattle.group_runs.proofs.Servers.{put_same, put_other, put_cases}
-use Rattle.group_runs.proofs.Nodes.{index_of}
+use Rattle.group_runs.proofs.Servers.{put_cases}
 use Rattle.group_runs.proofs.Inv.{Inv}
 use Rattle.group_runs.proofs.Stepped.{Laws, stepped_keeps}
-use Rattle.group_runs.proofs.Others.{undeclared, declared_keeps, nothing_keeps, stopped_keeps, written_keeps, started_keeps}
+use Rattle.group_runs.proofs.Others.{declared_keeps, nothing_keeps, stopped_keeps, written_keeps, started_keeps}
 use Rattle.group_runs.proofs.Founding.{Bare, founded}
 
 some_is : {A : Type 0} {x y : A} → Some x ≡ Some y → x ≡ y

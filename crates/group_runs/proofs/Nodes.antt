@@ -1,7 +1,6 @@
 -- Runs of the world of nodes, one event after another.
-use Rattle.std.proofs.Common.{append_assoc, append-nil, ◌≡◌, ◌⊎◌, inl, inr, ℕ, zero, suc, Bool, true, false, cond, Option, Some, None, List, [], ◌∷◌, ◌++◌, refl, sym, ap, subst, ◌∙◌}
-use Rattle.std.specs.Prelude.{map, filter, slice_get, flat_map, is_some, if◌then◌else◌}
-use Rattle.std.proofs.lemmas.Bool.{false≢true, cases_Bool}
+use Rattle.std.proofs.Common.{append-nil, ◌≡◌, inl, inr, ℕ, suc, Bool, true, false, Option, Some, None, List, [], ◌∷◌, ◌++◌, refl, sym, ap, subst, ◌∙◌}
+use Rattle.std.specs.Prelude.{map, slice_get, is_some, if◌then◌else◌}
 use Rattle.gr_ids.specs.Names.{inc_eq, has_inc}
 use Rattle.gr_ids.specs.declared.names.Inc.{Inc}
 use Rattle.slot_values.specs.declared.value.Joiner.{Joiner}
@@ -11,9 +10,9 @@ use Rattle.paxos_forms.specs.declared.message.Message.{Message}
 use Rattle.node_rules.specs.declared.event.PaxosEvent.TheVariants.{Heard}
 use Rattle.node_rules.specs.declared.taken.Taken.{Taken}
 use Rattle.node_rules.specs.Lists.{In}
-use Rattle.node_rules.specs.Node.{Node, Effect, quiet, also, joiner}
+use Rattle.node_rules.specs.Node.{Node, Effect, also, joiner}
 use Rattle.node_rules.specs.Step.{node_step}
-use Rattle.node_rules.specs.World.{World, Event, Act, Hears, Does, Starts, Took, Owns, Campaigns, Ticks, Proposes, Takes, made_by, all_made_by, does_all, put_node, took_by, casts_by, acted, makes, act_on, acts, hears, start_sent, add_of, starts, happens, start, run_from, run}
+use Rattle.node_rules.specs.World.{World, Event, Act, Took, Owns, Campaigns, Ticks, Proposes, Takes, made_by, all_made_by, does_all, put_node, took_by, acted, makes, act_on, acts, hears, start_sent, add_of, starts, happens, start, run_from, run}
 use Rattle.order_laws.specs.Laws.{slots_by}
 use Rattle.group_rules.specs.Events.{Setup}
 use Rattle.group_rules.specs.Steps.{group_of}

@@ -1,34 +1,27 @@
 -- The moves that are no step of a member: a server is declared, stops, or writes a row while it doesn't run, and an incarnation starts.
-use Rattle.std.proofs.Common.{eq-eqb, eqb, append_assoc, append-nil, ◌≡◌, ◌⊎◌, inl, inr, ℕ, suc, ◌≤◌, ◌<◌, Bool, true, false, cond, Option, Some, None, List, [], ◌∷◌, ◌++◌, refl, sym, ap, subst, ◌∙◌, arith, length}
-use Rattle.std.specs.Prelude.{map, ◌==◌, ◌||◌, is_some}
-use Rattle.std.specs.List.{list_any, find}
+use Rattle.std.proofs.Common.{eq-eqb, eqb, ◌≡◌, inl, inr, ℕ, suc, ◌≤◌, Bool, true, false, Option, Some, None, List, [], ◌∷◌, ◌++◌, refl, sym, ap, subst, ◌∙◌, arith, length}
+use Rattle.std.specs.Prelude.{◌==◌}
+use Rattle.std.specs.List.{list_any}
 use Rattle.std.proofs.lemmas.Bool.{false≢true, cases_Bool, eqb-true}
 use Rattle.gr_ids.specs.Names.{inc_eq}
 use Rattle.gr_ids.specs.declared.names.Inc.{Inc}
-use Rattle.gr_ids.specs.declared.levels.MemberState.TheVariants.{Offline, Online}
 use Rattle.gtid_sets.specs.Sets.{with_gtid}
 use Rattle.slot_values.specs.declared.value.Joiner.{Joiner}
-use Rattle.slot_values.specs.declared.value.Value.{Value}
 use Rattle.key_items.specs.declared.item.Item.{Item}
-use Rattle.paxos_forms.specs.declared.message.Message.{Message}
-use Rattle.paxos_forms.specs.declared.message.Wire.TheVariants.{Offer}
-use Rattle.group_rules.specs.declared.marks.Cause.TheVariants.{Founded, Started}
-use Rattle.node_rules.specs.Lists.{In}
-use Rattle.node_rules.specs.Node.{Node, joiner, founder}
+use Rattle.node_rules.specs.Node.{joiner}
 use Rattle.node_rules.specs.World as nodes
 use Rattle.order_laws.specs.Laws.{slots_by}
-use Rattle.group_rules.specs.Events.{Did, Founds, Starts, Is, Life, Setup, Stored, OfflineWrite}
+use Rattle.group_rules.specs.Events.{Starts, Life, Setup, Stored, OfflineWrite}
 use Rattle.group_rules.specs.Member.{Member}
-use Rattle.group_rules.specs.Steps.{group_of, add_of, start}
-use Rattle.group_rules.specs.World.{World, Server, Past, Does, Writes, Halts, life_in, nothing_stored, server_at, is_declared, joiner_of, put_server, happens, nothing_happens, dids, declare, started, stop, stored_by, written}
-use Rattle.group_rules.specs.Legal.{IsPast, WasMade}
+use Rattle.group_rules.specs.Steps.{group_of, start}
+use Rattle.group_rules.specs.World.{World, Server, Past, Does, Writes, Halts, life_in, nothing_stored, server_at, is_declared, joiner_of, put_server, nothing_happens, dids, declare, started, stop, stored_by, written}
 use Rattle.group_bridge.specs.Moves.{is_apart, slots_in}
-use Rattle.group_runs.specs.Runs.{as_sent, is_founder, running_in, stored_after, stored_in, WasSent, AllDid, IsDone, TookIn, OfSlots, HeardIn}
-use Rattle.group_runs.proofs.Pasts.{inc_same, inc_is, in_left, in_right, in_either, life_of_dids, life_of_others, running_of_dids, running_of_others, made_grows, did_map}
+use Rattle.group_runs.specs.Runs.{as_sent, is_founder, running_in, stored_after, stored_in, WasSent, HeardIn}
+use Rattle.group_runs.proofs.Pasts.{inc_same, inc_is, in_left, in_either, life_of_dids, life_of_others, running_of_others, made_grows, did_map}
 use Rattle.group_runs.proofs.Servers.{at_number, put_same, put_other, put_cases, number_of}
 use Rattle.group_runs.proofs.Nodes.{one_more, put_here, put_there, started_on}
 use Rattle.group_runs.proofs.Inv.{inc_of, IsRunning, WasStarted, Inv}
-use Rattle.group_runs.proofs.Stepped.{sent_grows, stored_of_dids, heard_grows}
+use Rattle.group_runs.proofs.Stepped.{sent_grows, heard_grows}
 
 some_is : {A : Type 0} {x y : A} → Some x ≡ Some y → x ≡ y
 some_is {x = x} {y = y} e = cc
@@ -244,57 +237,60 @@ written_keeps t w v inv n s at_it idle item row = record {
 
 pub started_keeps : (t : Setup) (w : World) (v : nodes.World) → Inv t w v → (n : ℕ) (s : Server) → server_at w n ≡ Some s → s.running ≡ None → (via : Member) → (v' : nodes.World) × Inv t (started t s via w) v'
 unfolding start
-started_keeps t w v inv n s at_it idle via = (after, record {
-  run = subst (λ z. (es : List nodes.Event) × (z ≡ nodes.run as_sent (group_of t) es)) (started_on (group_of t) v j via.me.inc absent) (one_more t v (nodes.Starts j via.me.inc) inv.run);
-  ended = inv.ended;
-  running = λ k z b q r. elim (put_cases y w k z q) [
-    | inl c ↦ subst (λ d. IsRunning t next after d b) c.1 (subst (λ d. IsRunning t next after y d) (some_is (subst (λ d. d.running ≡ Some b) (sym c.1) r)) run_here)
-    | inr c ↦ (let o = inv.running k z b c.1 r in
-      let apart : inc_eq j.inc b.me.inc ≡ false = of_server k z b c.1 r c.0 in
-      record { setup = o.setup; server = o.server; start = o.start; node = put_there v.at j.inc b.me.inc (joiner (group_of t) j.inc) apart ∙ o.node; life = life_of_others j.inc b.me.inc a.life w.past apart ∙ o.life; begun = o.begun; settled = o.settled })
-  ];
-  runs = λ k z q. elim (put_cases y w k z q) [
-    | inl c ↦ subst (λ d. running_in past k ≡ inc_of d.running) c.1 (subst (λ d. running_in past d ≡ Some j.inc) c.0 (ap (λ b. elim b [ true ↦ Some j.inc | false ↦ running_in (Does j.inc (Starts s.stored) ∷ w.past) s.number ]) (eq-eqb s.number s.number refl)))
-    | inr c ↦ running_of_others j.inc a.life w.past k c.0 ∙ inv.runs k z c.1
-  ];
-  stored = λ k z q. elim (put_cases y w k z q) [
-    | inl c ↦ subst (λ d. d.stored ≡ stored_in past k) c.1 (inv.stored n s at_it ∙ ap (λ m. stored_in w.past m) (sym (number_of w n s at_it) ∙ c.0))
-    | inr c ↦ inv.stored k z c.1
-  ];
-  unknown = λ k q. elim (cases_Bool (eqb s.number k)) [
-    | inl c ↦ absurd (some_none y (sym (subst (λ d. server_at (put_server y w) d ≡ Some y) (eqb-true s.number k c) (put_same y w)) ∙ q))
-    | inr c ↦ (let z = inv.unknown k (sym (put_other y w k c) ∙ q) in (running_of_others j.inc a.life w.past k c ∙ z.0, z.1))
-  ];
-  founders = λ i k. grows i (inv.founders i k);
-  known = λ i. elim (cases_Bool (inc_eq j.inc i)) [
-    | inl q ↦ inr (subst (λ z. WasStarted next z) (inc_is j.inc i q) begun)
-    | inr q ↦ elim (inv.known i) [ inl k ↦ inl (put_there v.at j.inc i (joiner (group_of t) j.inc) q ∙ k) | inr k ↦ inr (grows i k) ]
-  ];
-  lives = λ i. elim (cases_Bool (inc_eq j.inc i)) [
-    | inl q ↦ inr (subst (λ z. WasStarted next z) (inc_is j.inc i q) begun)
-    | inr q ↦ elim (inv.lives i) [ inl k ↦ inl (life_of_others j.inc i a.life w.past q ∙ k) | inr k ↦ inr (grows i k) ]
-  ];
-  sent = λ m h. elim (in_either m w.sent a.sent h) [
-    | inl z ↦ elim (inv.sent m z) [ inl k ↦ inl (in_left m v.wire (nodes.start_sent j via.me.inc ∷ []) k) | inr k ↦ inr k ]
-    | inr z ↦ elim z [ inl q ↦ inr (subst (λ x. is_apart x.wire ≡ true) q refl) | inr q ↦ absurd q ]
-  ];
-  told = λ m h. elim (in_either m w.sent a.sent h) [
-    | inl z ↦ sent_grows t (dids j.inc a.life) w.past m (inv.told m z)
-    | inr z ↦ elim z [ inl q ↦ subst (λ x. WasSent t past x) q tt | inr q ↦ absurd q ]
-  ];
-  took = (tt, (tt, inv.took));
-  mids = (tt, (tt, inv.mids));
-  heard = (tt, (tt, did_map (HeardIn v) (HeardIn after) (heard_grows v after (λ m h. in_left m v.wire (nodes.start_sent j via.me.inc ∷ []) h)) w.past inv.heard));
-  made = λ u h. elim (in_either u v.made (nodes.add_of j ∷ []) h) [
-    | inl z ↦ elim (inv.made u z) [ inl k ↦ inl k | inr k ↦ inr (made_grows (dids j.inc a.life) w.past u k) ]
-    | inr z ↦ elim z [ inl q ↦ inl (subst (λ x. x.id.number ≡ 0) q refl) | inr q ↦ absurd q ]
-  ];
-  slots = λ i. elim (cases_Bool (inc_eq j.inc i)) [
-    | inl q ↦ subst (λ z. slots_by z v.took ≡ slots_in (life_in past z)) (inc_is j.inc i q) (inv.slots j.inc ∙ (ap slots_in fresh ∙ sym (ap slots_in life_here)))
-    | inr q ↦ inv.slots i ∙ sym (ap slots_in (life_of_others j.inc i a.life w.past q))
-  ];
-  done = (inl (run_now, inr (s.stored, ap (λ b. elim b [ true ↦ Starts s.stored ∷ life_in w.past j.inc | false ↦ life_in w.past j.inc ]) (inc_same j.inc) ∙ ap (λ l. Starts s.stored ∷ l) fresh, refl)), ((nobody, fresh, not_founder, stored_here), inv.done));
-})
+started_keeps t w v inv n s at_it idle via = (
+  after,
+  record {
+    run = subst (λ z. (es : List nodes.Event) × (z ≡ nodes.run as_sent (group_of t) es)) (started_on (group_of t) v j via.me.inc absent) (one_more t v (nodes.Starts j via.me.inc) inv.run);
+    ended = inv.ended;
+    running = λ k z b q r. elim (put_cases y w k z q) [
+      | inl c ↦ subst (λ d. IsRunning t next after d b) c.1 (subst (λ d. IsRunning t next after y d) (some_is (subst (λ d. d.running ≡ Some b) (sym c.1) r)) run_here)
+      | inr c ↦ (let o = inv.running k z b c.1 r in
+          let apart : inc_eq j.inc b.me.inc ≡ false = of_server k z b c.1 r c.0 in
+          record { setup = o.setup; server = o.server; start = o.start; node = put_there v.at j.inc b.me.inc (joiner (group_of t) j.inc) apart ∙ o.node; life = life_of_others j.inc b.me.inc a.life w.past apart ∙ o.life; begun = o.begun; settled = o.settled })
+    ];
+    runs = λ k z q. elim (put_cases y w k z q) [
+      | inl c ↦ subst (λ d. running_in past k ≡ inc_of d.running) c.1 (subst (λ d. running_in past d ≡ Some j.inc) c.0 (ap (λ b. elim b [ true ↦ Some j.inc | false ↦ running_in (Does j.inc (Starts s.stored) ∷ w.past) s.number ]) (eq-eqb s.number s.number refl)))
+      | inr c ↦ running_of_others j.inc a.life w.past k c.0 ∙ inv.runs k z c.1
+    ];
+    stored = λ k z q. elim (put_cases y w k z q) [
+      | inl c ↦ subst (λ d. d.stored ≡ stored_in past k) c.1 (inv.stored n s at_it ∙ ap (λ m. stored_in w.past m) (sym (number_of w n s at_it) ∙ c.0))
+      | inr c ↦ inv.stored k z c.1
+    ];
+    unknown = λ k q. elim (cases_Bool (eqb s.number k)) [
+      | inl c ↦ absurd (some_none y (sym (subst (λ d. server_at (put_server y w) d ≡ Some y) (eqb-true s.number k c) (put_same y w)) ∙ q))
+      | inr c ↦ (let z = inv.unknown k (sym (put_other y w k c) ∙ q) in (running_of_others j.inc a.life w.past k c ∙ z.0, z.1))
+    ];
+    founders = λ i k. grows i (inv.founders i k);
+    known = λ i. elim (cases_Bool (inc_eq j.inc i)) [
+      | inl q ↦ inr (subst (λ z. WasStarted next z) (inc_is j.inc i q) begun)
+      | inr q ↦ elim (inv.known i) [ inl k ↦ inl (put_there v.at j.inc i (joiner (group_of t) j.inc) q ∙ k) | inr k ↦ inr (grows i k) ]
+    ];
+    lives = λ i. elim (cases_Bool (inc_eq j.inc i)) [
+      | inl q ↦ inr (subst (λ z. WasStarted next z) (inc_is j.inc i q) begun)
+      | inr q ↦ elim (inv.lives i) [ inl k ↦ inl (life_of_others j.inc i a.life w.past q ∙ k) | inr k ↦ inr (grows i k) ]
+    ];
+    sent = λ m h. elim (in_either m w.sent a.sent h) [
+      | inl z ↦ elim (inv.sent m z) [ inl k ↦ inl (in_left m v.wire (nodes.start_sent j via.me.inc ∷ []) k) | inr k ↦ inr k ]
+      | inr z ↦ elim z [ inl q ↦ inr (subst (λ x. is_apart x.wire ≡ true) q refl) | inr q ↦ absurd q ]
+    ];
+    told = λ m h. elim (in_either m w.sent a.sent h) [
+      | inl z ↦ sent_grows t (dids j.inc a.life) w.past m (inv.told m z)
+      | inr z ↦ elim z [ inl q ↦ subst (λ x. WasSent t past x) q tt | inr q ↦ absurd q ]
+    ];
+    took = (tt, (tt, inv.took));
+    mids = (tt, (tt, inv.mids));
+    heard = (tt, (tt, did_map (HeardIn v) (HeardIn after) (heard_grows v after (λ m h. in_left m v.wire (nodes.start_sent j via.me.inc ∷ []) h)) w.past inv.heard));
+    made = λ u h. elim (in_either u v.made (nodes.add_of j ∷ []) h) [
+      | inl z ↦ elim (inv.made u z) [ inl k ↦ inl k | inr k ↦ inr (made_grows (dids j.inc a.life) w.past u k) ]
+      | inr z ↦ elim z [ inl q ↦ inl (subst (λ x. x.id.number ≡ 0) q refl) | inr q ↦ absurd q ]
+    ];
+    slots = λ i. elim (cases_Bool (inc_eq j.inc i)) [
+      | inl q ↦ subst (λ z. slots_by z v.took ≡ slots_in (life_in past z)) (inc_is j.inc i q) (inv.slots j.inc ∙ (ap slots_in fresh ∙ sym (ap slots_in life_here)))
+      | inr q ↦ inv.slots i ∙ sym (ap slots_in (life_of_others j.inc i a.life w.past q))
+    ];
+    done = (inl (run_now, inr (s.stored, ap (λ b. elim b [ true ↦ Starts s.stored ∷ life_in w.past j.inc | false ↦ life_in w.past j.inc ]) (inc_same j.inc) ∙ ap (λ l. Starts s.stored ∷ l) fresh, refl)), ((nobody, fresh, not_founder, stored_here), inv.done));
+  },
+)
   where
     j : Joiner
     j = joiner_of s (suc s.starts)
@@ -360,8 +356,8 @@ started_keeps t w v inv n s at_it idle via = (after, record {
     of_server : (k : ℕ) (x : Server) (b : Member) → server_at w k ≡ Some x → x.running ≡ Some b → (s.number == k) ≡ false → inc_eq j.inc b.me.inc ≡ false
     of_server k x b q r z = elim (cases_Bool (inc_eq j.inc b.me.inc)) [
       | inl h ↦ (let same : j.inc ≡ b.me.inc = inc_is j.inc b.me.inc h in
-        let o = inv.running k x b q r in
-        let m : s.number ≡ k = ap (λ c. c.server) same ∙ (o.server ∙ number_of w k x q) in
-        absurd (false≢true (sym z ∙ eq-eqb s.number k m)))
+          let o = inv.running k x b q r in
+          let m : s.number ≡ k = ap (λ c. c.server) same ∙ (o.server ∙ number_of w k x q) in
+          absurd (false≢true (sym z ∙ eq-eqb s.number k m)))
       | inr h ↦ h
     ]

@@ -1,14 +1,13 @@
 -- What happened, one thing after another.
-use Rattle.std.proofs.Common.{eq-eqb, eqb, append_assoc, ◌≡◌, ◌⊎◌, inl, inr, ℕ, zero, suc, ◌+◌, ◌-◌, Bool, true, false, cond, Option, Some, None, List, [], ◌∷◌, ◌++◌, refl, sym, ap, subst, ◌∙◌, arith, length, take, length-append}
-use Rattle.std.specs.Prelude.{map, ◌==◌, ◌&&◌}
-use Rattle.std.proofs.lemmas.Bool.{false≢true, and_from, and_parts, eqb-true, cases_Bool}
+use Rattle.std.proofs.Common.{eq-eqb, eqb, ◌≡◌, ◌⊎◌, inl, inr, ℕ, ◌+◌, ◌-◌, true, false, Some, List, [], ◌∷◌, ◌++◌, refl, ap, ◌∙◌, arith, length, take, length-append}
+use Rattle.std.specs.Prelude.{map, ◌==◌}
+use Rattle.std.proofs.lemmas.Bool.{and_from, and_parts, eqb-true}
 use Rattle.gr_ids.specs.Names.{inc_eq}
 use Rattle.gr_ids.specs.declared.names.Inc.{Inc}
 use Rattle.slot_values.specs.declared.value.Value.{Value}
-use Rattle.txn_forms.specs.declared.body.Body.{Body}
 use Rattle.node_rules.specs.Lists.{In}
 use Rattle.group_rules.specs.Events.{Did, Made, Life}
-use Rattle.group_rules.specs.World.{Past, Happening, Does, Writes, Halts, life_in, dids}
+use Rattle.group_rules.specs.World.{Past, Does, Writes, Halts, life_in, dids}
 use Rattle.group_rules.specs.Legal.{IsPast, WasMade}
 use Rattle.group_bridge.specs.Moves.{Each}
 use Rattle.group_runs.specs.Runs.{AllDid, running_in}

@@ -1,7 +1,7 @@
 -- A step of a member keeps what holds of the world.
-use Rattle.std.proofs.Common.{eq-eqb, eqb, append_assoc, append-nil, ◌≡◌, ◌⊎◌, inl, inr, ℕ, ◌≤◌, ◌<◌, ◌-◌, Bool, true, false, cond, Option, Some, None, List, [], ◌∷◌, ◌++◌, refl, sym, ap, subst, ◌∙◌, length, take, arith, ◌+◌, length-append}
-use Rattle.std.specs.Prelude.{map, ◌==◌, ◌&&◌, slice_get}
-use Rattle.std.proofs.lemmas.Bool.{false≢true, cases_Bool, eqb-true, and_parts}
+use Rattle.std.proofs.Common.{eq-eqb, eqb, append_assoc, append-nil, ◌≡◌, ◌⊎◌, inl, inr, ℕ, ◌≤◌, ◌<◌, ◌-◌, Bool, true, false, Option, Some, None, List, [], ◌∷◌, ◌++◌, refl, sym, ap, subst, ◌∙◌, length, take, arith, ◌+◌, length-append}
+use Rattle.std.specs.Prelude.{map, ◌==◌}
+use Rattle.std.proofs.lemmas.Bool.{false≢true, cases_Bool, eqb-true}
 use Rattle.gr_ids.specs.Names.{inc_eq}
 use Rattle.gr_ids.specs.declared.names.Inc.{Inc}
 use Rattle.slot_values.specs.declared.value.Value.{Value}
@@ -28,8 +28,8 @@ use Rattle.group_rules.specs.World.{World, Server, Past, Does, Writes, Halts, li
 use Rattle.group_rules.specs.Legal.{IsPast, WasMade}
 use Rattle.group_bridge.specs.Left.{is_settled, IsAfterAll, IsSent, taken_left}
 use Rattle.group_bridge.specs.Moves.{is_apart, is_ask_or_give, slots_in, Each, IsAllowed, TookBy, TookRightly, SentBy, GreetedBy, IsActs, StepIsActs, cleared}
-use Rattle.group_runs.specs.Runs.{as_sent, is_founder, running_in, stored_in, WasGreeted, WasTold, WasSentAs, WasSent, AllDid, IsActive, ByRules, IsDone, IsNodeRun, TookIn, TookThen, OfSlots, HeardIn}
-use Rattle.group_runs.proofs.Pasts.{inc_same, inc_is, take_more, in_left, in_right, in_either, in_map, life_of_dids, life_of_others, running_of_dids, running_of_others, past_of_more, past_grows, made_grows, did_map, did_more}
+use Rattle.group_runs.specs.Runs.{as_sent, running_in, stored_in, WasGreeted, WasTold, WasSentAs, WasSent, AllDid, IsActive, IsDone, IsNodeRun, TookIn, TookThen, OfSlots, HeardIn}
+use Rattle.group_runs.proofs.Pasts.{inc_is, take_more, in_left, in_right, in_either, in_map, life_of_dids, life_of_others, running_of_dids, running_of_others, past_of_more, past_grows, made_grows, did_map, did_more}
 use Rattle.group_runs.proofs.Servers.{put_same, put_other, put_cases, number_of}
 use Rattle.group_runs.proofs.Nodes.{one_more, acted_on, heard_on, index_of, put_here, put_there, all_made_own, slots_of_one, slots_of_other}
 use Rattle.group_runs.proofs.Inv.{inc_of, IsRunning, WasStarted, Inv}
@@ -490,9 +490,9 @@ module _ (t : Setup) (w : World) (v : nodes.World) (inv : Inv t w v) (number : �
   of_server : (k : ℕ) (x : Server) (y : Member) → server_at w k ≡ Some x → x.running ≡ Some y → (s.number == k) ≡ false → inc_eq i y.me.inc ≡ false
   of_server k x y q r z = elim (cases_Bool (inc_eq i y.me.inc)) [
     | inl h ↦ (let same : i ≡ y.me.inc = inc_is i y.me.inc h in
-      let o = inv.running k x y q r in
-      let m : s.number ≡ k = sym a.server ∙ (ap (λ j. j.server) same ∙ (o.server ∙ number_of w k x q)) in
-      absurd (false≢true (sym z ∙ eq-eqb s.number k m)))
+        let o = inv.running k x y q r in
+        let m : s.number ≡ k = sym a.server ∙ (ap (λ j. j.server) same ∙ (o.server ∙ number_of w k x q)) in
+        absurd (false≢true (sym z ∙ eq-eqb s.number k m)))
     | inr h ↦ h
   ]
 
@@ -511,8 +511,8 @@ module _ (t : Setup) (w : World) (v : nodes.World) (inv : Inv t w v) (number : �
   all_running k x y q r = elim (put_cases put w k x q) [
     | inl z ↦ subst (λ c. IsRunning t next after c y) z.1 (subst (λ c. IsRunning t next after put c) (some_is (subst (λ c. c.running ≡ Some y) (sym z.1) r)) run_here)
     | inr z ↦ (let o = inv.running k x y z.1 r in
-      let apart : inc_eq i y.me.inc ≡ false = of_server k x y z.1 r z.0 in
-      record { setup = o.setup; server = o.server; start = o.start; node = put_there v.at i y.me.inc _ apart ∙ o.node; life = life_of_others i y.me.inc acts.more w.past apart ∙ o.life; begun = o.begun; settled = o.settled })
+        let apart : inc_eq i y.me.inc ≡ false = of_server k x y z.1 r z.0 in
+        record { setup = o.setup; server = o.server; start = o.start; node = put_there v.at i y.me.inc _ apart ∙ o.node; life = life_of_others i y.me.inc acts.more w.past apart ∙ o.life; begun = o.begun; settled = o.settled })
   ]
 
   all_runs : (k : ℕ) (x : Server) → server_at next k ≡ Some x → running_in past k ≡ inc_of x.running
@@ -614,8 +614,11 @@ module _ (t : Setup) (named : Laws t) (takes_none : HearingTakesNone) (greets_no
       }
 
       keeps : (f : Node → Effect) (g : Member) → g.me ≡ a.me → g.life ≡ a.life → Acting t w v s a.node f g → IsActs e g (step e a) → (v' : nodes.World) × Inv t (stepped s a (step e a) w) v'
-      keeps f g me life k acts = (with_acts v g.me.inc f a.node acts.acts, subst (λ z. Inv t z (with_acts v g.me.inc f a.node acts.acts)) (as_stepped (step e a) g me life acts)
-          (acted_keeps t w v inv number s at_it a.node f g (step e a) k e acts named (λ m q. let z = wired m q in (z.0, z.1 ∙ ap (λ j. j.inc) (sym me)))))
+      keeps f g me life k acts = (
+        with_acts v g.me.inc f a.node acts.acts,
+        subst (λ z. Inv t z (with_acts v g.me.inc f a.node acts.acts)) (as_stepped (step e a) g me life acts)
+            (acted_keeps t w v inv number s at_it a.node f g (step e a) k e acts named (λ m q. let z = wired m q in (z.0, z.1 ∙ ap (λ j. j.inc) (sym me)))),
+      )
 
       quietly : (g : Member) → g ≡ cleared a → IsActs e g (step e a) → (v' : nodes.World) × Inv t (stepped s a (step e a) w) v'
       quietly g q acts = keeps quiet g (ap (λ c. c.me) q) (ap (λ c. c.life) q)

@@ -1,5 +1,5 @@
 -- What holds of all that happens in a run of the group: each thing was allowed by what had happened before, and the slots are those of a run of a world of nodes.
-use Rattle.std.specs.Prelude.{◌≡◌, ◌⊎◌, ◌<◌, ℕ, Bool, true, false, Option, Some, None, List, [], ◌∷◌, ◌++◌, ◌==◌, map, length}
+use Rattle.std.specs.Prelude.{◌≡◌, ◌⊎◌, ◌<◌, ℕ, Bool, true, false, Option, Some, None, List, [], ◌∷◌, ◌++◌, ◌==◌, length}
 use Rattle.gr_ids.specs.Names.{has_inc}
 use Rattle.gr_ids.specs.declared.names.Inc.{Inc}
 use Rattle.gr_ids.specs.declared.levels.MemberState.{MemberState}
@@ -9,7 +9,6 @@ use Rattle.slot_values.specs.declared.value.Joiner.{Joiner}
 use Rattle.slot_values.specs.declared.value.Value.{Value}
 use Rattle.slot_values.specs.declared.value.What.TheVariants.{Add}
 use Rattle.slot_values.specs.Log.{Turns}
-use Rattle.txn_forms.specs.declared.body.Body.{Body}
 use Rattle.paxos_forms.specs.declared.message.Message.{Message}
 use Rattle.paxos_forms.specs.declared.message.Wire.{Wire}
 use Rattle.paxos_forms.specs.declared.message.Wire.TheVariants.{Welcome as Greet, Ask, Give}
@@ -20,7 +19,7 @@ use Rattle.node_rules.specs.Lists.{In}
 use Rattle.node_rules.specs.Node.{Node}
 use Rattle.node_rules.specs.Welcoming.{welcome_of}
 use Rattle.node_rules.specs.World as nodes
-use Rattle.group_rules.specs.Events.{Did, Founds, Starts, Came, Made, Took, Skips, Is, Event, Hears, Life, Setup, Stored, Entry}
+use Rattle.group_rules.specs.Events.{Did, Founds, Starts, Came, Took, Skips, Is, Event, Hears, Life, Setup, Stored, Entry}
 use Rattle.group_rules.specs.Life.{state, is_up, view, executed, stored, certs}
 use Rattle.group_rules.specs.View.{shown}
 use Rattle.group_rules.specs.Steps.{group_of}

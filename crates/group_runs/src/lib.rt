@@ -1,10 +1,10 @@
 //! What holds of every run of the group: it is a run of the world of nodes, and each thing that happens is allowed by what had happened before.
 #![tactic(auto)]
 
+ghost use Rattle.group_runs.specs.Runs.{EveryRun};
+
 use group_bridge::steps_are_acts;
 use order_laws::{only_taking_greets, only_taking_takes, welcomes_follow};
-
-ghost use Rattle.group_runs.specs.Runs.{EveryRun};
 
 /// In every run of the group, whatever is lost, repeated, reordered, stopped and started: the slots that members take and skip are those of one run
 /// of the world of nodes, of which the laws of the order speak; and each thing that an incarnation does is what the rules allow after all
