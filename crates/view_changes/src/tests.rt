@@ -49,6 +49,7 @@ fn a_primary_is_followed_by_an_online_member(rt: HostRuntime) -> Result<(), Fail
         Ok(Effect::Plain)
     );
     assert_eq!(rt; view.state(first_start(1)), Some(MemberState::Recovering));
+    assert_eq!(rt; view.number(), 2);
     let remove = value(3, What::Remove(first_start(2)));
     assert_eq!(rt;
         view.take(alloc, Pos(2), &remove, None, true),
@@ -60,21 +61,25 @@ fn a_primary_is_followed_by_an_online_member(rt: HostRuntime) -> Result<(), Fail
     let online = Body::Online(GtidSet::new(alloc));
     view.take(alloc, Pos(3), &saying(alloc, 1), Some(&online), false)?;
     let named = Body::Primary(first_start(1));
+    assert_eq!(rt; view.number(), 3);
     assert_eq!(rt;
         view.take(alloc, Pos(4), &saying(alloc, 3), Some(&named), false),
         Ok(Effect::Plain)
     );
+    assert_eq!(rt; view.number(), 3);
     assert_eq!(rt;
         view.take(alloc, Pos(5), &saying(alloc, 3), Some(&named), false),
         Ok(Effect::Void)
     );
     assert_eq!(rt; view.elected(), Pos(4));
     let multi = Body::Mode(ModeChange::Multi);
+    assert_eq!(rt; view.number(), 3);
     assert_eq!(rt;
         view.take(alloc, Pos(6), &saying(alloc, 3), Some(&multi), false),
         Ok(Effect::Plain)
     );
     assert_eq!(rt; view.primary(), None);
+    assert_eq!(rt; view.number(), 3);
     assert_eq!(rt;
         view.take(alloc, Pos(7), &saying(alloc, 3), None, false),
         Ok(Effect::Unread)
