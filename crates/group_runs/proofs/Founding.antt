@@ -6,7 +6,7 @@ use Rattle.gr_ids.specs.Names.{inc_eq, has_inc}
 use Rattle.gr_ids.specs.declared.names.Inc.{Inc}
 use Rattle.slot_values.specs.declared.value.Joiner.{Joiner}
 use Rattle.node_rules.specs.Lists.{In}
-use Rattle.node_rules.specs.Node.{founder}
+use Rattle.node_rules.specs.Node.{Node, founder}
 use Rattle.node_rules.specs.World as nodes
 use Rattle.group_rules.specs.Events.{Did, Founds, Setup}
 use Rattle.group_rules.specs.Member.{Member}
@@ -74,6 +74,7 @@ record Begun (t : Setup) (rest : List Joiner) (w : World) : Type 0 where
   unknown : (n : ℕ) → server_at w n ≡ None → running_in w.past n ≡ None
   founders : (j : Joiner) → In j t.founders → In j rest ⊎ WasStarted w j.inc
   lives : (i : Inc) → (life_in w.past i ≡ []) ⊎ WasStarted w i
+  there : (i : Inc) → (life_in w.past i ≡ []) ⊎ ((n : Node) × ((nodes.start (group_of t)).at i ≡ Some n))
   idle : (j : Joiner) → In j rest → (running_in w.past j.inc.server ≡ None) × ((n : ℕ) → life_in w.past (record { server = j.inc.server; start = n }) ≡ [])
   unstarted : (j : Joiner) → In j rest → (s : Server) → server_at w j.inc.server ≡ Some s → s.starts ≡ 0
   sent : w.sent ≡ []
@@ -112,6 +113,10 @@ module _ (t : Setup) (good : IsSetup t) where
     lives = λ i. elim (cases_Bool (inc_eq j.inc i)) [
       | inl q ↦ inr (subst (λ z. WasStarted next z) (inc_is j.inc i q) begun)
       | inr q ↦ elim (p.lives i) [ inl k ↦ inl (life_of_others j.inc i a.life w.past q ∙ k) | inr k ↦ inr (grows i k) ]
+    ];
+    there = λ i. elim (cases_Bool (inc_eq j.inc i)) [
+      | inl q ↦ inr (founder (group_of t) j.inc, subst (λ z. (nodes.start (group_of t)).at z ≡ Some (founder (group_of t) j.inc)) (inc_is j.inc i q) run_here.node)
+      | inr q ↦ elim (p.there i) [ inl k ↦ inl (life_of_others j.inc i a.life w.past q ∙ k) | inr k ↦ inr k ]
     ];
     idle = λ k h.
         let other : (j.inc.server == k.inc.server) ≡ false = not_same k h in
@@ -206,6 +211,7 @@ module _ (t : Setup) (good : IsSetup t) where
     unknown = λ n q. b.runs n;
     founders = λ j h. inl h;
     lives = λ i. inl (b.lives i);
+    there = λ i. inl (b.lives i);
     idle = λ j h. (b.runs j.inc.server, λ n. b.lives (record { server = j.inc.server; start = n }));
     unstarted = λ j h s q. (b.idle j.inc.server s q).2;
     sent = b.sent;
@@ -226,6 +232,7 @@ module _ (t : Setup) (good : IsSetup t) where
     founders = founders;
     known = λ i. elim (cases_Bool (is_founder t i)) [ inl h ↦ inr (founders i h) | inr h ↦ inl (ap (λ b. if b then Some (founder (group_of t) i) else None) h) ];
     lives = p.lives;
+    there = p.there;
     heard = p.heard;
     sent = λ m h. absurd (subst (λ l. In m l) p.sent h);
     told = λ m h. absurd (subst (λ l. In m l) p.sent h);

@@ -4,6 +4,7 @@ use Rattle.gr_ids.specs.declared.names.Inc.{Inc}
 use Rattle.slot_values.specs.declared.value.Value.{Value}
 use Rattle.paxos_forms.specs.declared.message.Message.{Message}
 use Rattle.node_rules.specs.Lists.{In}
+use Rattle.node_rules.specs.Node.{Node}
 use Rattle.node_rules.specs.World as nodes
 use Rattle.order_laws.specs.Laws.{slots_by}
 use Rattle.group_rules.specs.Events.{Setup}
@@ -42,6 +43,7 @@ pub record Inv (t : Setup) (w : World) (v : nodes.World) : Type 0 where
   pub founders : (i : Inc) → is_founder t i ≡ true → WasStarted w i
   pub known : (i : Inc) → (v.at i ≡ None) ⊎ WasStarted w i
   pub lives : (i : Inc) → (life_in w.past i ≡ []) ⊎ WasStarted w i
+  pub there : (i : Inc) → (life_in w.past i ≡ []) ⊎ ((n : Node) × (v.at i ≡ Some n))
   pub sent : (m : Message) → In m w.sent → In m v.wire ⊎ (is_apart m.wire ≡ true)
   pub told : (m : Message) → In m w.sent → WasSent t w.past m
   pub took : AllDid (OfSlots (TookIn t v)) w.past

@@ -226,7 +226,7 @@ module _ (acts : (e : Event) (a : Member) → StepIsActs e a) (named : (t : Setu
   sound (m ∷ ms) = sound_move m (world_after ms) (sound ms)
 
   pub every_run : EveryRun
-  every_run ms t q g = let r = (sound ms).runs t q g in let k = r.1 in record { nodes = r.0; run = k.run; took = k.took; then = k.mids; heard = k.heard; slots = k.slots; done = k.done }
+  every_run ms t q g = let r = (sound ms).runs t q g in let k = r.1 in record { nodes = r.0; run = k.run; took = k.took; then = k.mids; heard = k.heard; there = k.there; slots = k.slots; done = k.done }
 
 -- ---- the laws of the order, in these runs
 

@@ -74,6 +74,7 @@ declared_keeps t w v inv n u z g h = record {
   founders = λ j k. grows j (inv.founders j k);
   known = λ j. elim (inv.known j) [ inl k ↦ inl k | inr k ↦ inr (grows j k) ];
   lives = λ j. elim (inv.lives j) [ inl k ↦ inl k | inr k ↦ inr (grows j k) ];
+  there = inv.there;
   sent = inv.sent;
   told = inv.told;
   took = inv.took;
@@ -109,6 +110,7 @@ nothing_keeps t w v inv = record {
   founders = inv.founders;
   known = inv.known;
   lives = inv.lives;
+  there = inv.there;
   sent = inv.sent;
   told = inv.told;
   took = inv.took;
@@ -144,6 +146,7 @@ stopped_keeps t w v inv n s at_it = record {
   founders = λ j k. grows j (inv.founders j k);
   known = λ j. elim (inv.known j) [ inl k ↦ inl k | inr k ↦ inr (grows j k) ];
   lives = λ j. elim (inv.lives j) [ inl k ↦ inl k | inr k ↦ inr (grows j k) ];
+  there = inv.there;
   sent = inv.sent;
   told = λ m h. sent_grows t (Halts s.number ∷ []) w.past m (inv.told m h);
   took = inv.took;
@@ -203,6 +206,7 @@ written_keeps t w v inv n s at_it idle item row = record {
   founders = λ j k. grows j (inv.founders j k);
   known = λ j. elim (inv.known j) [ inl k ↦ inl k | inr k ↦ inr (grows j k) ];
   lives = λ j. elim (inv.lives j) [ inl k ↦ inl k | inr k ↦ inr (grows j k) ];
+  there = inv.there;
   sent = inv.sent;
   told = λ m h. sent_grows t (Writes s.number x ∷ []) w.past m (inv.told m h);
   took = inv.took;
@@ -269,7 +273,11 @@ started_keeps t w v inv n s at_it idle via = (
       | inl q ↦ inr (subst (λ z. WasStarted next z) (inc_is j.inc i q) begun)
       | inr q ↦ elim (inv.lives i) [ inl k ↦ inl (life_of_others j.inc i a.life w.past q ∙ k) | inr k ↦ inr (grows i k) ]
     ];
-    sent = λ m h. elim (in_either m w.sent a.sent h) [
+    there = λ i. elim (cases_Bool (inc_eq j.inc i)) [
+    | inl q ↦ inr (joiner (group_of t) j.inc, subst (λ z. after.at z ≡ Some (joiner (group_of t) j.inc)) (inc_is j.inc i q) (put_here v.at j.inc (joiner (group_of t) j.inc)))
+    | inr q ↦ elim (inv.there i) [ inl k ↦ inl (life_of_others j.inc i a.life w.past q ∙ k) | inr k ↦ inr (k.0, put_there v.at j.inc i (joiner (group_of t) j.inc) q ∙ k.1) ]
+  ];
+  sent = λ m h. elim (in_either m w.sent a.sent h) [
       | inl z ↦ elim (inv.sent m z) [ inl k ↦ inl (in_left m v.wire (nodes.start_sent j via.me.inc ∷ []) k) | inr k ↦ inr k ]
       | inr z ↦ elim z [ inl q ↦ inr (subst (λ x. is_apart x.wire ≡ true) q refl) | inr q ↦ absurd q ]
     ];

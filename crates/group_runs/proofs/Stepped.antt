@@ -539,6 +539,15 @@ module _ (t : Setup) (w : World) (v : nodes.World) (inv : Inv t w v) (number : �
     | inr q ↦ elim (inv.known j) [ inl z ↦ inl (put_there v.at i j _ q ∙ z) | inr z ↦ inr (started_grows j z) ]
   ]
 
+  all_there : (j : Inc) → (life_in past j ≡ []) ⊎ ((m : Node) × (after.at j ≡ Some m))
+  all_there j = elim (cases_Bool (inc_eq i j)) [
+    | inl q ↦ inr (node_now, subst (λ z. after.at z ≡ Some node_now) (inc_is i j q) (put_here v.at i node_now))
+    | inr q ↦ elim (inv.there j) [ inl z ↦ inl (life_of_others i j acts.more w.past q ∙ z) | inr z ↦ inr (z.0, put_there v.at i j node_now q ∙ z.1) ]
+  ]
+    where
+      node_now : Node
+      node_now = (nodes.does_all i acts.acts (f n).node).node
+
   all_lives : (j : Inc) → (life_in past j ≡ []) ⊎ WasStarted next j
   all_lives j = elim (cases_Bool (inc_eq i j)) [
     | inl q ↦ inr (subst (λ z. WasStarted next z) (inc_is i j q) started_here)
@@ -556,6 +565,7 @@ module _ (t : Setup) (w : World) (v : nodes.World) (inv : Inv t w v) (number : �
     founders = λ j h. started_grows j (inv.founders j h);
     known = all_known;
     lives = all_lives;
+    there = all_there;
     sent = all_sent;
     told = all_told;
     took = all_took;

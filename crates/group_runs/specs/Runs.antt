@@ -164,6 +164,7 @@ pub record OfNodes (t : Setup) (w : World) : Type 0 where
   pub took : AllDid (OfSlots (TookIn t nodes)) w.past
   pub then : AllDid (OfSlots (TookThen t)) w.past
   pub heard : AllDid (HeardIn nodes) w.past
+  pub there : (i : Inc) → (life_in w.past i ≡ []) ⊎ ((n : Node) × (nodes.at i ≡ Some n))
   pub slots : (i : Inc) → slots_by i nodes.took ≡ slots_in (life_in w.past i)
   pub done : AllDid (IsDone t) w.past
 
