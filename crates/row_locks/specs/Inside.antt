@@ -5,7 +5,8 @@ use Rattle.std.specs.Map.{lookup}
 use Rattle.std.specs.BTreeMap.{is_at}
 use Rattle.std.specs.Global.{Vec}
 use Rattle.std.specs.Prelude.{map}
-use Rattle.key_items.specs.Items.{Item, has_item}
+use Rattle.key_items.specs.declared.item.Item.{Item}
+use Rattle.key_items.specs.Items.{has_item}
 use Rattle.row_locks.specs.Locking.{SessionKey, session_at}
 
 abbrev pub key_of : Item × ℕ → SessionKey

@@ -1,8 +1,10 @@
 -- Row locks: which session holds a key, or which places that are done. (MySQL 8.0 Reference Manual, InnoDB Locking: a record lock has one owner, and
 -- lasts to the end of its transaction. That a place takes over the keys of its transaction once it is done is this project's own.)
 use Rattle.std.specs.Prelude.{◌≡◌, ℕ, Bool, true, ◌&&◌, not, Option, Some, None, List, [], ◌∷◌, filter, fold, nat_lt, nat_le, ◌==◌, if◌then◌else◌}
-use Rattle.key_items.specs.Items.{Item, item_eq, has_item}
-use Rattle.group_rules.specs.Names.{Holder, BySession, ByPlace}
+use Rattle.key_items.specs.declared.item.Item.{Item}
+use Rattle.key_items.specs.Items.{item_eq, has_item}
+use Rattle.group_rules.specs.declared.answers.Holder.{Holder}
+use Rattle.group_rules.specs.declared.answers.Holder.TheVariants.{Session as BySession, Place as ByPlace}
 use Rattle.group_rules.specs.Keys.{or_holder}
 use Rattle.group_rules.specs.Sessions.{with_session}
 pub use Rattle.row_locks.specs.declared.done.DonePlace.{DonePlace}

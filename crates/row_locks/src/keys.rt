@@ -1,5 +1,5 @@
 // Keys of sessions in their map.
-ghost use Rattle.std.specs.Prelude.{◌≡◌, ℕ, true, IfOk, OnOk, map, nat_lt, [], ◌∷◌, if◌then◌else◌};
+ghost use Rattle.std.specs.Prelude.{◌≡◌, ℕ, true, false, Some, IfOk, OnOk, map, nat_lt, slice_get, [], ◌∷◌, if◌then◌else◌};
 ghost use Rattle.std.specs.List.{prefix_len};
 ghost use Rattle.key_items.specs.declared.item.Item.{Item as AnyItem};
 ghost use Rattle.key_items.specs.Items.{has_item};
@@ -51,8 +51,18 @@ pub(crate) fn unlock_own(keys: &mut BTreeMap<Item, SessionId>, items: &[Item], s
 fn unlock(keys: &mut BTreeMap<Item, SessionId>, item: &Item, session: SessionId)
     ensures { (j : AnyItem) → session_at (map key_of keys.new.entries) j ≡ (if has_item (item.now ∷ []) j then without_session session (session_at (map key_of keys.old.entries) j) else session_at (map key_of keys.old.entries) j) }
 {
-    if session_of_key(keys, item) == Some(session) {
+    if is_session(session_of_key(keys, item), session) {
         keys.remove(item);
+    }
+}
+
+fn is_session(holder: Option<SessionId>, session: SessionId) -> bool
+    ensures yes { result ≡ true → holder ≡ Some session }
+    ensures no { result ≡ false → holder ≡ Some session → ⊥ }
+{
+    match holder {
+        Some(other) => other == session,
+        None => false,
     }
 }
 
@@ -84,11 +94,17 @@ fn add_session(sessions: &mut Vec<SessionId>, session: SessionId) -> Result<(), 
     ensures { OnOk result (sessions.new.items ≡ with_session sessions.old.items session) }
 {
     let at = index_of(sessions, session);
-    if sessions.get(at) == Some(&session) {
+    if is_session(session_at_index(sessions, at), session) {
         return Ok(());
     }
     sessions.insert(at, session)?;
     Ok(())
+}
+
+fn session_at_index(sessions: &[SessionId], at: usize) -> Option<SessionId>
+    ensures { result ≡ slice_get sessions.now at }
+{
+    sessions.get(at).copied()
 }
 
 // How many of these are less.

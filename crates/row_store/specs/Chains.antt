@@ -3,8 +3,12 @@
 use Rattle.std.specs.Prelude.{◌≡◌, ℕ, Bool, true, false, Option, Some, None, List, [], ◌∷◌, ◌++◌, fold, nat_lt, is_some, filter_map, if◌then◌else◌}
 use Rattle.std.specs.List.{list_all}
 use Rattle.gtid_sets.specs.Sets.{Gtids, has}
-use Rattle.key_items.specs.Items.{Item, item_eq}
-use Rattle.group_rules.specs.Names.{Gtid, Change, ChangeKind, Inserts, Updates, Deletes}
+use Rattle.key_items.specs.declared.item.Item.{Item}
+use Rattle.key_items.specs.Items.{item_eq}
+use Rattle.key_items.specs.declared.change.Change.{Change}
+use Rattle.key_items.specs.declared.change.ChangeKind.{ChangeKind}
+use Rattle.key_items.specs.declared.change.ChangeKind.TheVariants.{Insert as Inserts, Update as Updates, Delete as Deletes}
+use Rattle.gr_ids.specs.declared.names.Gtid.{Gtid}
 use Rattle.group_rules.specs.Events.{Cert}
 use Rattle.group_rules.specs.Rows.{changed_row, fits, row_by}
 use Rattle.row_store.specs.declared.fault.RowFault.{RowFault}

@@ -1,8 +1,9 @@
 -- How the chains stand in a map.
 use Rattle.std.specs.Prelude.{ℕ, ◌-◌, Bool, false, ◌||◌, List, fold, length, nat_lt, vec_capacity}
 use Rattle.std.specs.Global.{Vec}
-use Rattle.key_items.specs.Items.{Item}
-use Rattle.gr_ids.specs.Names.{Gtid, gtid_eq}
+use Rattle.key_items.specs.declared.item.Item.{Item}
+use Rattle.gr_ids.specs.declared.names.Gtid.{Gtid}
+use Rattle.gr_ids.specs.Names.{gtid_eq}
 use Rattle.row_store.specs.Chains.{Chain, Version, spare_of, versions_of}
 
 abbrev pub chain_of : Item × Vec Version → Chain

@@ -1,7 +1,8 @@
 -- Whether there is a row, without its value.
 use Rattle.std.specs.Prelude.{Bool, List, [], ◌∷◌, is_some, if◌then◌else◌}
-use Rattle.key_items.specs.Items.{Item, item_eq}
-use Rattle.group_rules.specs.Names.{Change}
+use Rattle.key_items.specs.declared.item.Item.{Item}
+use Rattle.key_items.specs.Items.{item_eq}
+use Rattle.key_items.specs.declared.change.Change.{Change}
 use Rattle.group_rules.specs.Rows.{row_after}
 
 -- there is a row of the item after these changes
