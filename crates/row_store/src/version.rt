@@ -42,12 +42,21 @@ pub(crate) fn put_version(versions: &mut Vec<Version>, version: Version)
     ensures seen { (e : Gtids) → seen_in e versions.new.items ≡ (if has e version.gtid then version.row else seen_in e versions.old.items) }
     ensures newest { (last_row versions.new.items ≡ version.row) × (is_newest version.gtid versions.new.items ≡ true) }
 {
-    if is_of(versions, version.gtid) {
-        versions.pop();
-    }
+    make_way(versions, version.gtid);
     match versions.push(version) {
         Ok(()) => {}
         Err(_) => unreachable!(),
+    }
+}
+
+// Drops the newest version where it is of this transaction. Then there is room for one.
+fn make_way(versions: &mut Vec<Version>, gtid: Gtid)
+    requires { is_newest gtid versions.old.items ≡ false → length versions.old.items < vec_capacity versions.old }
+    ensures seen { (e : Gtids) → has e gtid ≡ false → seen_in e versions.new.items ≡ seen_in e versions.old.items }
+    ensures room { length versions.new.items < vec_capacity versions.new }
+{
+    if is_of(versions, gtid) {
+        versions.pop();
     }
 }
 
