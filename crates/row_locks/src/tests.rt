@@ -60,9 +60,9 @@ fn places_take_keys_over(rt: HostRuntime) -> Result<(), Fail> {
     let alloc = rt.alloc();
     let (a, b, c) = (item(alloc, b"a")?, item(alloc, b"b")?, item(alloc, b"c")?);
     let mut locks = Locks::new(alloc);
-    locks.lock(&a, SessionId(3))?;
-    locks.lock(&b, SessionId(1))?;
-    locks.lock(&c, SessionId(3))?;
+    assert_eq!(rt; locks.lock(&a, SessionId(3)), Ok(()));
+    assert_eq!(rt; locks.lock(&b, SessionId(1)), Ok(()));
+    assert_eq!(rt; locks.lock(&c, SessionId(3)), Ok(()));
     let losers = locks.take_over(&set(alloc, b"abx")?, Pos(9), gtid(9))?;
     assert!(rt; losers.as_slice() == [SessionId(1), SessionId(3)].as_slice());
     assert_eq!(rt; locks.lock(&a, SessionId(3)), by_place(9));

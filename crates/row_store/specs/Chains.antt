@@ -1,6 +1,6 @@
 -- Rows with their versions: for each item a chain, which each transaction that changes the item extends by what it left of the row.
 -- (MySQL 8.0 Reference Manual, InnoDB Multi-Versioning: a consistent read sees what the transactions of its snapshot wrote.)
-use Rattle.std.specs.Prelude.{◌≡◌, ℕ, Bool, true, false, Option, Some, None, List, [], ◌∷◌, ◌++◌, fold, nat_lt, is_some, filter_map, if◌then◌else◌}
+use Rattle.std.specs.Prelude.{◌≡◌, ℕ, Bool, true, false, Option, Some, None, List, [], ◌∷◌, ◌++◌, fold, nat_lt, is_some, if◌then◌else◌}
 use Rattle.std.specs.List.{list_all}
 use Rattle.gtid_sets.specs.Sets.{Gtids, has}
 use Rattle.key_items.specs.declared.item.Item.{Item}
@@ -9,6 +9,7 @@ use Rattle.key_items.specs.declared.change.Change.{Change}
 use Rattle.key_items.specs.declared.change.ChangeKind.{ChangeKind}
 use Rattle.key_items.specs.declared.change.ChangeKind.TheVariants.{Insert as Inserts, Update as Updates, Delete as Deletes}
 use Rattle.gr_ids.specs.declared.names.Gtid.{Gtid}
+use Rattle.group_rules.specs.declared.said.Row.{Row}
 use Rattle.group_rules.specs.Events.{Cert}
 use Rattle.group_rules.specs.Rows.{changed_row, fits, row_by}
 use Rattle.row_store.specs.declared.fault.RowFault.{RowFault}
@@ -44,6 +45,15 @@ row_at cs i e = seen_in e (versions_of cs i)
 
 abbrev pub row_now : List Chain → Item → Option (List ℕ)
 row_now cs i = last_row (versions_of cs i)
+
+abbrev pub row_list : Item → Option (List ℕ) → List Row
+row_list i None = []
+row_list i (Some v) = record { item = i; value = v } ∷ []
+
+-- the rows now, by ascending item
+abbrev pub rows_of : List Chain → List Row
+rows_of [] = []
+rows_of (c ∷ cs) = row_list c.item (last_row c.versions) ++ rows_of cs
 
 -- ---- what a transaction does
 

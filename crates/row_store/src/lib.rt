@@ -8,6 +8,7 @@ ghost use Rattle.row_store.specs.Chains.{Chain, IsApplied, IsFoldOf};
 mod chains;
 mod fault;
 mod presence;
+mod rows;
 mod store;
 #[cfg(test)]
 mod tests;

@@ -1,16 +1,18 @@
 // The rows of a member.
-ghost use Rattle.std.specs.Prelude.{◌≡◌, false, true, [], IfErr, OnOk, option_copied};
+ghost use Rattle.std.specs.Prelude.{◌≡◌, false, true, [], IfErr, IfOk, OnOk, option_copied};
 ghost use Rattle.gtid_sets.specs.Sets.{Gtids};
 ghost use Rattle.key_items.specs.declared.item.Item.{Item as AnyItem};
 ghost use Rattle.gr_ids.specs.declared.memory.Memory.{Memory};
 ghost use Rattle.group_rules.specs.Rows.{changed_row, fits};
-ghost use Rattle.row_store.specs.Chains.{IsApplied, fault_of, has_room, row_at, row_now, row_own, versions_of};
+ghost use Rattle.row_store.specs.Chains.{IsApplied, fault_of, has_room, row_at, row_now, row_own, rows_of, versions_of};
 
 use crate::chains::{make_room, put_all};
 use crate::fault::RowFault;
 use crate::presence::is_there_after;
+use crate::rows::rows_of_chains;
 use crate::version::{Version, newest_in, newest_row};
 use gr_ids::{Blob, Gtid, Memory, Sequence};
+use group_rules::Row;
 use gtid_sets::GtidSet;
 use key_items::{Change, ChangeKind, Item};
 use std::alloc::Global;
@@ -91,5 +93,12 @@ impl Store {
         ensures { option_copied result ≡ row_at self.now item.now view.now }
     {
         newest_in(self.chains.get(item)?, view)
+    }
+
+    /// The rows now, by ascending item. Linear in the items and in the bytes of the rows.
+    pub fn rows(&self, alloc: Global) -> Result<Sequence<Row>, Memory>
+        ensures { IfOk result (λ rows. rows ≡ rows_of self.now) }
+    {
+        Ok(Sequence::from_vec(rows_of_chains(alloc, &self.chains)?))
     }
 }

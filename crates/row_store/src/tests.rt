@@ -1,3 +1,5 @@
+ghost use Rattle.std.specs.Prelude.{◌≡◌};
+
 use crate::{RowFault, Store};
 use gr_ids::{Blob, Gtid, Memory, Sequence};
 use gtid_sets::GtidSet;
@@ -12,7 +14,9 @@ fn item(alloc: Global, key: u8) -> Result<Item, Memory> {
     })
 }
 
-fn gtid(number: u64) -> Gtid {
+fn gtid(number: u64) -> Gtid
+    ensures { result.number ≡ number }
+{
     Gtid {
         source: [7; 16],
         number,
@@ -100,6 +104,10 @@ fn a_set_sees_what_its_transactions_left(rt: HostRuntime) -> Result<(), Fail> {
     assert!(rt; is(store.get(&a), b"3"));
     assert!(rt; is(store.get(&b), b"4"));
     assert!(rt; store.get(&c).is_none());
+    let rows = store.rows(alloc)?;
+    assert_eq!(rt; rows.as_slice().len(), 2);
+    assert!(rt; rows.as_slice()[0].item == a && rows.as_slice()[0].value.as_slice() == b"3".as_slice());
+    assert!(rt; rows.as_slice()[1].item == b && rows.as_slice()[1].value.as_slice() == b"4".as_slice());
     Ok(())
 }
 
