@@ -1,3 +1,4 @@
 pub mod Versions
 pub mod ChainReads
 pub mod Folds
+pub mod RowOrder

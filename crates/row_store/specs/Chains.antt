@@ -50,6 +50,9 @@ abbrev pub row_list : Item → Option (List ℕ) → List Row
 row_list i None = []
 row_list i (Some v) = record { item = i; value = v } ∷ []
 
+abbrev pub item_of : Row → Item
+item_of r = r.item
+
 -- the rows now, by ascending item
 abbrev pub rows_of : List Chain → List Row
 rows_of [] = []

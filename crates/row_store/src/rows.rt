@@ -1,7 +1,8 @@
 // The rows of all chains.
-ghost use Rattle.std.specs.Prelude.{◌≡◌, ◌++◌, IfOk, OnOk, map, option_copied};
+ghost use Rattle.std.specs.Prelude.{◌≡◌, ◌++◌, [], IfOk, OnOk, map, option_copied};
 ghost use Rattle.gr_ids.specs.declared.memory.Memory.{Memory};
-ghost use Rattle.row_store.specs.Chains.{row_list, rows_of};
+ghost use Rattle.row_store.specs.Chains.{item_of, row_list, rows_of};
+ghost use Rattle.key_items.specs.Items.{Ascend};
 ghost use Rattle.row_store.specs.Inside.{chain_of};
 
 use crate::version::{Version, newest_row};
@@ -16,9 +17,23 @@ pub(crate) fn rows_of_chains(
     alloc: Global,
     chains: &BTreeMap<Item, Vec<Version>>,
 ) -> Result<Vec<Row>, Memory>
+    ensures rows { IfOk result (λ rows. rows.items ≡ rows_of (map chain_of chains.now.entries)) }
+    ensures ascend { IfOk result (λ rows. Ascend (map item_of rows.items)) }
+{
+    let room = Vec::with_capacity(alloc, chains.len())?;
+    let rows = with_rows(room, alloc, chains)?;
+    Ok(rows)
+}
+
+fn with_rows(
+    room: Vec<Row>,
+    alloc: Global,
+    chains: &BTreeMap<Item, Vec<Version>>,
+) -> Result<Vec<Row>, Memory>
+    requires { room.items ≡ [] }
     ensures { IfOk result (λ rows. rows.items ≡ rows_of (map chain_of chains.now.entries)) }
 {
-    let mut rows = Vec::new(alloc);
+    let mut rows = room;
     for (item, versions) in chains.iter() {
         add_row(&mut rows, alloc, item, newest_row(versions))?;
     }

@@ -1,10 +1,11 @@
 // The rows of a member.
-ghost use Rattle.std.specs.Prelude.{◌≡◌, false, true, [], IfErr, IfOk, OnOk, option_copied};
+ghost use Rattle.std.specs.Prelude.{◌≡◌, false, true, [], IfErr, IfOk, OnOk, map, option_copied};
+ghost use Rattle.key_items.specs.Items.{Ascend};
 ghost use Rattle.gtid_sets.specs.Sets.{Gtids};
 ghost use Rattle.key_items.specs.declared.item.Item.{Item as AnyItem};
 ghost use Rattle.gr_ids.specs.declared.memory.Memory.{Memory};
 ghost use Rattle.group_rules.specs.Rows.{changed_row, fits};
-ghost use Rattle.row_store.specs.Chains.{IsApplied, fault_of, has_room, row_at, row_now, row_own, rows_of, versions_of};
+ghost use Rattle.row_store.specs.Chains.{IsApplied, fault_of, has_room, item_of, row_at, row_now, row_own, rows_of, versions_of};
 
 use crate::chains::{make_room, put_all};
 use crate::fault::RowFault;
@@ -97,7 +98,8 @@ impl Store {
 
     /// The rows now, by ascending item. Linear in the items and in the bytes of the rows.
     pub fn rows(&self, alloc: Global) -> Result<Sequence<Row>, Memory>
-        ensures { IfOk result (λ rows. rows ≡ rows_of self.now) }
+        ensures rows { IfOk result (λ rows. rows ≡ rows_of self.now) }
+        ensures ascend { IfOk result (λ rows. Ascend (map item_of rows)) }
     {
         Ok(Sequence::from_vec(rows_of_chains(alloc, &self.chains)?))
     }

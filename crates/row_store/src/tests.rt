@@ -106,8 +106,12 @@ fn a_set_sees_what_its_transactions_left(rt: HostRuntime) -> Result<(), Fail> {
     assert!(rt; store.get(&c).is_none());
     let rows = store.rows(alloc)?;
     assert_eq!(rt; rows.as_slice().len(), 2);
-    assert!(rt; rows.as_slice()[0].item == a && rows.as_slice()[0].value.as_slice() == b"3".as_slice());
-    assert!(rt; rows.as_slice()[1].item == b && rows.as_slice()[1].value.as_slice() == b"4".as_slice());
+    assert!(rt;
+        rows.as_slice()[0].item == a && rows.as_slice()[0].value.as_slice() == b"3".as_slice()
+    );
+    assert!(rt;
+        rows.as_slice()[1].item == b && rows.as_slice()[1].value.as_slice() == b"4".as_slice()
+    );
     Ok(())
 }
 

@@ -24,19 +24,19 @@ put_one-requires c =
 
 pub loop-change-preserved : goal.loop-change-preserved
 loop-change-preserved c = record {
-    ready =
-        all_more (λ (x : Change). is_ready c.args.gtid (map chain_of c.loop-change.chains.entries) x.item) (λ (x : Change). is_ready c.args.gtid (map chain_of c.put_one.new.chains.entries) x.item) c.next.new.self.rest.items
-        (λ x h. c.put_one.ensures.ready x.item h)
-        ((all_rest (λ (x : Change). is_ready c.args.gtid (map chain_of c.loop-change.chains.entries) x.item) c.in-Some.change c.next.new.self.rest.items
-        (ap (λ xs. list_all (λ (x : Change). is_ready c.args.gtid (map chain_of c.loop-change.chains.entries) x.item) xs) (sym c.in-Some.ensures.steps.0) ∙ c.loop-change.invariant.ready)).1);
-    at = λ i e.
-        ap (row_with c.args.gtid c.next.new.self.rest.items e i) (c.put_one.ensures.at i e)
-        ∙ (row_next c.args.gtid e i (row_at (map chain_of c.loop-change.chains.entries) i e) c.in-Some.change c.next.new.self.rest.items
-        ∙ (ap (λ xs. row_with c.args.gtid xs e i (row_at (map chain_of c.loop-change.chains.entries) i e)) (sym c.in-Some.ensures.steps.0) ∙ c.loop-change.invariant.at i e));
-    now = λ i.
-        ap (λ r. changed_row i r c.next.new.self.rest.items) (c.put_one.ensures.now i)
-        ∙ (changed_next i (row_now (map chain_of c.loop-change.chains.entries) i) c.in-Some.change c.next.new.self.rest.items
-        ∙ (ap (λ xs. changed_row i (row_now (map chain_of c.loop-change.chains.entries) i) xs) (sym c.in-Some.ensures.steps.0) ∙ c.loop-change.invariant.now i));
+  ready =
+      all_more (λ (x : Change). is_ready c.args.gtid (map chain_of c.loop-change.chains.entries) x.item) (λ (x : Change). is_ready c.args.gtid (map chain_of c.put_one.new.chains.entries) x.item) c.next.new.self.rest.items
+      (λ x h. c.put_one.ensures.ready x.item h)
+      ((all_rest (λ (x : Change). is_ready c.args.gtid (map chain_of c.loop-change.chains.entries) x.item) c.in-Some.change c.next.new.self.rest.items
+      (ap (λ xs. list_all (λ (x : Change). is_ready c.args.gtid (map chain_of c.loop-change.chains.entries) x.item) xs) (sym c.in-Some.ensures.steps.0) ∙ c.loop-change.invariant.ready)).1);
+  at = λ i e.
+      ap (row_with c.args.gtid c.next.new.self.rest.items e i) (c.put_one.ensures.at i e)
+      ∙ (row_next c.args.gtid e i (row_at (map chain_of c.loop-change.chains.entries) i e) c.in-Some.change c.next.new.self.rest.items
+      ∙ (ap (λ xs. row_with c.args.gtid xs e i (row_at (map chain_of c.loop-change.chains.entries) i e)) (sym c.in-Some.ensures.steps.0) ∙ c.loop-change.invariant.at i e));
+  now = λ i.
+      ap (λ r. changed_row i r c.next.new.self.rest.items) (c.put_one.ensures.now i)
+      ∙ (changed_next i (row_now (map chain_of c.loop-change.chains.entries) i) c.in-Some.change c.next.new.self.rest.items
+      ∙ (ap (λ xs. changed_row i (row_now (map chain_of c.loop-change.chains.entries) i) xs) (sym c.in-Some.ensures.steps.0) ∙ c.loop-change.invariant.now i));
 }
 
 none : (c : goal.After-drop-change-iterator) → c.loop-change.change-iterator.rest.items ≡ []

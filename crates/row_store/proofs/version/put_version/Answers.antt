@@ -7,6 +7,6 @@ use Rattle.row_store.proofs.version.put_version.Goals as goal
 
 pub returns-clause-newest : goal.returns-clause-newest
 returns-clause-newest c = (
-    ap last_row c.in-Ok.ensures.items ∙ last_more c.make_way.new.versions.items c.args.version,
-    ap (is_newest c.args.version.gtid) c.in-Ok.ensures.items ∙ (newest_more c.args.version.gtid c.make_way.new.versions.items c.args.version ∙ gtid_itself c.args.version.gtid),
-  )
+  ap last_row c.in-Ok.ensures.items ∙ last_more c.make_way.new.versions.items c.args.version,
+  ap (is_newest c.args.version.gtid) c.in-Ok.ensures.items ∙ (newest_more c.args.version.gtid c.make_way.new.versions.items c.args.version ∙ gtid_itself c.args.version.gtid),
+)
