@@ -9,7 +9,7 @@ pub returns-then-is_session : goal.returns-then-is_session
 returns-then-is_session c =
     let at : c.index_of-at.result ≡ before c.args.session c.args.sessions.now.items = c.index_of-at.ensures ∙ ap (λ l. before c.args.session l) c.deref.ensures.value in
     let is : slice_get c.args.sessions.now.items c.index_of-at.result ≡ Some c.args.session =
-        ap (λ l. slice_get l c.index_of-at.result) (sym c.deref-2.ensures.value) ∙ (sym c.session_at_index.ensures ∙ c.is_session.ensures.yes c.if-is_session.true) in
+    ap (λ l. slice_get l c.index_of-at.result) (sym c.deref-2.ensures.value) ∙ (sym c.session_at_index.ensures ∙ c.is_session.ensures.yes c.if-is_session.true) in
     sym (there c.args.sessions.now.items c.args.session c.index_of-at.result at is)
 
 pub insert-requires : goal.insert-requires
