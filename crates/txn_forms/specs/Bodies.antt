@@ -7,6 +7,7 @@ use Rattle.byte_forms.specs.Fields.{number_in}
 use Rattle.byte_forms.specs.Lists.{several, counted, list_of, bytes_in, IsChain}
 use Rattle.name_forms.specs.Incs.{IsInc, inc_bytes, next_inc}
 use Rattle.name_forms.specs.Gtids.{IsGtid, gtid_bytes, next_gtid}
+use Rattle.name_forms.specs.OpenParts.{part_size, most_parts}
 use Rattle.gtid_sets.specs.Canonical.{IsCanonical}
 use Rattle.gtid_sets.specs.Spelling.{set_bytes, next_set}
 use Rattle.key_items.specs.Spelling.{IsItemAfter, item_bytes, next_item_after}
@@ -50,13 +51,6 @@ unfoldable pub next_mode : Reader ModeChange
 next_mode = number_in 1 0 2 >>= λ k. slice_index_or modes k (pure Multi)
 
 -- ---- parts: the index, the count, and the bytes behind their count
-
--- what a part carries that isn't the last one
-abbrev pub part_size : ℕ
-part_size = 65523
-
-abbrev pub most_parts : ℕ
-most_parts = 257
 
 abbrev pub part_bytes : Part → List ℕ
 part_bytes p = number 4 p.index ++ (number 4 p.count ++ counted p.bytes)

@@ -4,10 +4,17 @@
 mod body;
 mod changes;
 mod codec;
+mod copies;
 mod fault;
+mod joined;
+mod joining;
 mod news;
+mod parts;
+mod places;
 mod txns;
 
 pub use body::{Body, ModeChange, Part, Txn};
 pub use codec::{decode, encode};
 pub use fault::BodyFault;
+pub use joined::Joined;
+pub use parts::Parts;

@@ -1,0 +1,150 @@
+-- What the place of an origin's parts says of open parts that ascend by origin.
+use Rattle.std.proofs.Common.{◌≡◌, ℕ, zero, suc, ◌+◌, ◌<◌, ◌≤◌, Bool, true, false, Option, Some, None, List, [], ◌∷◌, ◌++◌, length, get_or, set, take, drop, refl, sym, ap, ◌∙◌, arith}
+use Rattle.std.specs.List.{slice_get, insert, remove}
+use Rattle.std.specs.Option.{option_to_list}
+use Rattle.std.proofs.lemmas.Bool.Decides.{nat_tests}
+use Rattle.byte_forms.specs.Lists.{IsChain}
+use Rattle.gr_ids.specs.declared.names.Inc.{Inc}
+use Rattle.gr_ids.specs.Names.{inc_eq, inc_lt}
+use Rattle.gr_ids.specs.declared.names.OpenParts.{OpenParts}
+use Rattle.name_forms.specs.OpenParts.{IsOpenAfter}
+use Rattle.txn_forms.specs.Parts.{parts_of, with_parts}
+use Rattle.txn_forms.specs.PartPlaces.{parts_before, is_of, has_parts}
+
+-- ---- the order of incarnations
+
+below_other : (a b : Inc) → inc_lt a b ≡ true → inc_eq a b ≡ false
+below_other a b h = grind (arith, nat_tests)
+
+above_other : (a b : Inc) → inc_lt b a ≡ true → inc_eq a b ≡ false
+above_other a b h = grind (arith, nat_tests)
+
+pub below_below : (a b c : Inc) → inc_lt a b ≡ true → inc_lt b c ≡ true → inc_lt a c ≡ true
+below_below a b c h k = grind (arith, nat_tests)
+
+pub else_above : (a b : Inc) → inc_lt a b ≡ false → inc_eq a b ≡ false → inc_lt b a ≡ true
+else_above a b h k = grind (arith, nat_tests)
+
+-- ---- where the place is
+
+pub within-parts_before : (ps : List OpenParts) (o : Inc) → parts_before ps o ≤ length ps
+within-parts_before [] o = omega arith
+within-parts_before (p ∷ ps) o = by_test (within-parts_before ps o) (inc_lt p.origin o)
+  where
+    by_test : parts_before ps o ≤ length ps → (t : Bool) → (elim t [ true ↦ suc (parts_before ps o) | false ↦ 0 ]) ≤ suc (length ps)
+    by_test later true = omega arith
+    by_test later false = omega arith
+
+-- parts that aren't below the origin stand at the place or behind it
+pub place_le : (ps : List OpenParts) (o : Inc) (i : ℕ) (d : OpenParts) → i < length ps → inc_lt (get_or ps i d).origin o ≡ false → parts_before ps o ≤ i
+place_le [] o i d lt h = absurd (omega arith)
+place_le (p ∷ ps) o zero d lt h = rw h (omega arith)
+place_le (p ∷ ps) o (suc i) d lt h = by_test (place_le ps o i d (omega arith) h) (inc_lt p.origin o)
+  where
+    by_test : parts_before ps o ≤ i → (t : Bool) → (elim t [ true ↦ suc (parts_before ps o) | false ↦ 0 ]) ≤ suc i
+    by_test later true = omega arith
+    by_test later false = omega arith
+
+first_below : (p : OpenParts) (ps : List OpenParts) (o : Inc) (i : ℕ) (d : OpenParts) → IsChain IsOpenAfter (Some p) ps → i < length ps → inc_lt (get_or ps i d).origin o ≡ true → inc_lt p.origin o ≡ true
+first_below p [] o i d h lt b = absurd (omega arith)
+first_below p (q ∷ qs) o zero d h lt b = below_below p.origin q.origin o h.0.origin.1 b
+first_below p (q ∷ qs) o (suc i) d h lt b = below_below p.origin q.origin o h.0.origin.1 (first_below q qs o i d h.1 (omega arith) b)
+
+-- parts that are below the origin stand before the place
+pub place_gt : (ps : List OpenParts) (before : Option OpenParts) (o : Inc) (i : ℕ) (d : OpenParts) → IsChain IsOpenAfter before ps → i < length ps → inc_lt (get_or ps i d).origin o ≡ true → i < parts_before ps o
+place_gt [] before o i d h lt b = absurd (omega arith)
+place_gt (p ∷ ps) before o zero d h lt b = rw b (omega arith)
+place_gt (p ∷ ps) before o (suc i) d h lt b =
+    let here = first_below p ps o i d h.1 (omega arith) b in
+    let later = place_gt ps (Some p) o i d h.1 (omega arith) b in
+    rw here (omega arith)
+
+-- ---- what stands there
+
+-- where the origin's parts are there, they are the origin's
+pub parts_there : (ps : List OpenParts) (o : Inc) (at : ℕ) → at ≡ parts_before ps o → has_parts ps at o ≡ true → parts_of ps o ≡ slice_get ps at
+parts_there [] o at e h = absurd cc
+parts_there (p ∷ ps) o at e h = go (inc_lt p.origin o) refl (λ k. parts_there ps o (parts_before ps o) refl k)
+  where
+    go : (t : Bool) → inc_lt p.origin o ≡ t → (has_parts ps (parts_before ps o) o ≡ true → parts_of ps o ≡ slice_get ps (parts_before ps o)) → parts_of (p ∷ ps) o ≡ slice_get (p ∷ ps) at
+    go true f r =
+        let z : at ≡ suc (parts_before ps o) = e ∙ (rw f refl) in
+        rw (below_other p.origin o f, z) (r (rw z at h))
+    go false f r =
+        let z : at ≡ 0 = e ∙ (rw f refl) in
+        let same : inc_eq p.origin o ≡ true = (rw z at h) in
+        rw (same, z) refl
+
+none_above : (p : OpenParts) (ps : List OpenParts) (o : Inc) → IsChain IsOpenAfter (Some p) ps → inc_lt o p.origin ≡ true → parts_of ps o ≡ None
+none_above p [] o h b = refl
+none_above p (q ∷ qs) o h b =
+    let next = below_below o p.origin q.origin b h.0.origin.1 in
+    rw (above_other q.origin o next) (none_above q qs o h.1 next)
+
+-- where they aren't, the origin has none
+pub parts_nowhere : (ps : List OpenParts) (before : Option OpenParts) (o : Inc) (at : ℕ) → IsChain IsOpenAfter before ps → at ≡ parts_before ps o → has_parts ps at o ≡ false → parts_of ps o ≡ None
+parts_nowhere [] before o at chain e h = refl
+parts_nowhere (p ∷ ps) before o at chain e h = go (inc_lt p.origin o) refl (λ k. parts_nowhere ps (Some p) o (parts_before ps o) chain.1 refl k)
+  where
+    go : (t : Bool) → inc_lt p.origin o ≡ t → (has_parts ps (parts_before ps o) o ≡ false → parts_of ps o ≡ None) → parts_of (p ∷ ps) o ≡ None
+    go true f r =
+        let z : at ≡ suc (parts_before ps o) = e ∙ (rw f refl) in
+        rw (below_other p.origin o f) (r (rw z at h))
+    go false f r =
+        let z : at ≡ 0 = e ∙ (rw f refl) in
+        let other : inc_eq p.origin o ≡ false = (rw z at h) in
+        rw other (none_above p ps o chain.1 (else_above p.origin o f other))
+
+-- ---- what is put there
+
+pub parts_set : (ps : List OpenParts) (o : Inc) (at : ℕ) (x : OpenParts) → at ≡ parts_before ps o → has_parts ps at o ≡ true → with_parts ps o (Some x) ≡ set ps at x
+parts_set [] o at x e h = absurd cc
+parts_set (p ∷ ps) o at x e h = go (inc_lt p.origin o) refl (λ k. parts_set ps o (parts_before ps o) x refl k)
+  where
+    go : (t : Bool) → inc_lt p.origin o ≡ t → (has_parts ps (parts_before ps o) o ≡ true → with_parts ps o (Some x) ≡ set ps (parts_before ps o) x) → with_parts (p ∷ ps) o (Some x) ≡ set (p ∷ ps) at x
+    go true f r =
+        let z : at ≡ suc (parts_before ps o) = e ∙ (rw f refl) in
+        rw (f, z) (ap (λ l. p ∷ l) (r (rw z at h)))
+    go false f r =
+        let z : at ≡ 0 = e ∙ (rw f refl) in
+        let same : inc_eq p.origin o ≡ true = (rw z at h) in
+        rw (f, same, z) refl
+
+pub parts_insert : (ps : List OpenParts) (o : Inc) (at : ℕ) (x : OpenParts) → at ≡ parts_before ps o → has_parts ps at o ≡ false → with_parts ps o (Some x) ≡ insert ps at x
+parts_insert [] o at x e h = let z : at ≡ 0 = e in rw z refl
+parts_insert (p ∷ ps) o at x e h = go (inc_lt p.origin o) refl (λ k. parts_insert ps o (parts_before ps o) x refl k)
+  where
+    go : (t : Bool) → inc_lt p.origin o ≡ t → (has_parts ps (parts_before ps o) o ≡ false → with_parts ps o (Some x) ≡ insert ps (parts_before ps o) x) → with_parts (p ∷ ps) o (Some x) ≡ insert (p ∷ ps) at x
+    go true f r =
+        let z : at ≡ suc (parts_before ps o) = e ∙ (rw f refl) in
+        rw (f, z) (ap (λ l. p ∷ l) (r (rw z at h)))
+    go false f r =
+        let z : at ≡ 0 = e ∙ (rw f refl) in
+        let other : inc_eq p.origin o ≡ false = (rw z at h) in
+        rw (f, other, z) refl
+
+pub parts_remove : (ps : List OpenParts) (o : Inc) (at : ℕ) → at ≡ parts_before ps o → has_parts ps at o ≡ true → with_parts ps o None ≡ remove ps at
+parts_remove [] o at e h = absurd cc
+parts_remove (p ∷ ps) o at e h = go (inc_lt p.origin o) refl (λ k. parts_remove ps o (parts_before ps o) refl k)
+  where
+    go : (t : Bool) → inc_lt p.origin o ≡ t → (has_parts ps (parts_before ps o) o ≡ true → with_parts ps o None ≡ remove ps (parts_before ps o)) → with_parts (p ∷ ps) o None ≡ remove (p ∷ ps) at
+    go true f r =
+        let z : at ≡ suc (parts_before ps o) = e ∙ (rw f refl) in
+        rw (f, z) (ap (λ l. p ∷ l) (r (rw z at h)))
+    go false f r =
+        let z : at ≡ 0 = e ∙ (rw f refl) in
+        let same : inc_eq p.origin o ≡ true = (rw z at h) in
+        rw (f, same, z) refl
+
+pub parts_stay : (ps : List OpenParts) (o : Inc) (at : ℕ) → at ≡ parts_before ps o → has_parts ps at o ≡ false → with_parts ps o None ≡ ps
+parts_stay [] o at e h = refl
+parts_stay (p ∷ ps) o at e h = go (inc_lt p.origin o) refl (λ k. parts_stay ps o (parts_before ps o) refl k)
+  where
+    go : (t : Bool) → inc_lt p.origin o ≡ t → (has_parts ps (parts_before ps o) o ≡ false → with_parts ps o None ≡ ps) → with_parts (p ∷ ps) o None ≡ p ∷ ps
+    go true f r =
+        let z : at ≡ suc (parts_before ps o) = e ∙ (rw f refl) in
+        rw f (ap (λ l. p ∷ l) (r (rw z at h)))
+    go false f r =
+        let z : at ≡ 0 = e ∙ (rw f refl) in
+        let other : inc_eq p.origin o ≡ false = (rw z at h) in
+        rw (f, other) refl
