@@ -9,8 +9,8 @@ use Rattle.name_forms.specs.Incs.{IsInc, inc_bytes, next_inc}
 use Rattle.name_forms.specs.Gtids.{IsGtid, gtid_bytes, next_gtid}
 use Rattle.name_forms.specs.OpenParts.{part_size, most_parts}
 use Rattle.gtid_sets.specs.Canonical.{IsCanonical}
-use Rattle.gtid_sets.specs.Spelling.{set_bytes, next_set}
-use Rattle.key_items.specs.Spelling.{IsItemAfter, item_bytes, next_item_after}
+use Rattle.gtid_sets.specs.Spelling.{set_bytes, next_set, HasCounts}
+use Rattle.key_items.specs.Spelling.{IsItemAfter, AreBytes, item_bytes, next_item_after}
 use Rattle.txn_forms.specs.Changes.{IsChange, last_u32, change_bytes, next_change}
 pub use Rattle.txn_forms.specs.declared.body.Txn.{Txn}
 pub use Rattle.txn_forms.specs.declared.body.Part.{Part}
@@ -127,3 +127,19 @@ IsBody (body.Online s) = IsCanonical s
 IsBody (body.Mode m) = IsModeChange m
 IsBody (body.Primary i) = IsInc i
 IsBody (body.Part p) = IsPart p
+
+-- ---- what memory holds: bytes below 256, and sets whose counts fit four bytes
+
+pub record IsHeldTxn (t : Txn) : Type 0 where
+  pub counts : HasCounts t.snapshot
+  pub items : AllByRecursion AreBytes t.items
+
+abbrev pub IsHeld : Body → Type 0
+IsHeld (body.Txn t) = IsHeldTxn t
+IsHeld (body.Prepared g) = Unit {0}
+IsHeld body.Sync = Unit {0}
+IsHeld (body.Executed s) = HasCounts s
+IsHeld (body.Online s) = HasCounts s
+IsHeld (body.Mode m) = Unit {0}
+IsHeld (body.Primary i) = Unit {0}
+IsHeld (body.Part p) = Unit {0}

@@ -1,5 +1,5 @@
 // Parts that are taken one after another, and joined.
-ghost use Rattle.std.specs.Prelude.{◌≡◌, ◌<◌, ◌^◌, ◌+◌, ◌++◌, None, Some, IfOk, OnErr, OnOk, length, is_some};
+ghost use Rattle.std.specs.Prelude.{◌≡◌, ◌≤◌, ◌<◌, ◌^◌, ◌+◌, ◌++◌, None, Some, IfOk, OnErr, OnOk, length, is_some};
 ghost use Rattle.byte_forms.specs.Lists.{IsChain};
 ghost use Rattle.gr_ids.specs.declared.memory.Memory.{Memory};
 ghost use Rattle.name_forms.specs.Incs.{IsInc};
@@ -95,13 +95,23 @@ fn first_part(origin: Inc, part: Part) -> OpenParts
 fn goes_on(parts: &[OpenParts], at: usize, origin: Inc, part: &Part) -> bool
     requires ascend { IsChain IsOpenAfter None parts.now }
     requires place { at ≡ parts_before_of parts.now origin }
+    requires index { 1 ≤ part.now.index }
     ensures { result ≡ goes_on_of (parts_of parts.now origin) part.now }
 {
     if !has_parts(parts, at, origin) {
         return false;
     }
-    let held = &parts[at];
-    held.count == part.count && held.held + 1 == part.index
+    match parts.get(at) {
+        Some(held) => follows(held, part),
+        None => false,
+    }
+}
+
+fn follows(held: &OpenParts, part: &Part) -> bool
+    requires { 1 ≤ part.now.index }
+    ensures { result ≡ goes_on_of (Some held.now) part.now }
+{
+    held.count == part.count && held.held == part.index - 1
 }
 
 // One part more, which isn't the last one.
