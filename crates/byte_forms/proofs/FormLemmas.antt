@@ -1,9 +1,9 @@
 -- The two sides of the basic forms, and how forms are put together.
 use Rattle.std.proofs.Common.{◌≡◌, ℕ, zero, suc, ◌+◌, ◌-◌, ◌*◌, ◌/◌, ◌%◌, ◌^◌, ◌<◌, ◌≤◌, Bool, true, false, ◌&&◌, List, [], ◌∷◌, ◌++◌, length, take, drop, Option, Some, None, refl, sym, ap, subst, ◌∙◌, arith, append_assoc, length-append}
-use Rattle.std.proofs.lemmas.List.{take_at, drop_at}
+use Rattle.std.proofs.lemmas.List.{take_at, drop_at, append-nil}
 use Rattle.std.specs.List.{flat_map}
 use Rattle.byte_forms.specs.Numbers.{number, number_of, are_bytes}
-use Rattle.byte_forms.specs.Reads.{Read, Got, Fault, Reader, go_on, ◌>>=◌, pure}
+use Rattle.byte_forms.specs.Reads.{Read, Got, Fault, Reader, go_on, ◌>>=◌, pure, at_end, whole}
 use Rattle.byte_forms.specs.Fields.{field, word, begins_number, number_in}
 use Rattle.byte_forms.specs.Lists.{several, counted, elements, IsChain, list_of, bytes_in}
 use Rattle.byte_forms.specs.Forms.{IsRead, IsSpelled, IsForm}
@@ -165,3 +165,21 @@ reads_on form next x more rest fits = read_on (form_read form) next x more rest 
 
 pub reads_last : {A B : Type 0} {Fits : A → Type 0} {spelling : A → List ℕ} {read : Reader A} → IsForm Fits spelling read → (next : A → Reader B) (x : A) (rest : List ℕ) → Fits x → (read >>= next) (spelling x ++ rest) ≡ next x rest
 reads_last form next x rest fits = read_last (form_read form) next x rest fits
+
+-- ---- a form that is all of the bytes
+
+pub whole_spelled : {A : Type 0} {Fits : A → Type 0} {spelling : A → List ℕ} {read : Reader A} → IsSpelled Fits spelling read → (bytes : List ℕ) (x : A) → whole read bytes ≡ Got x [] → Fits x × (bytes ≡ spelling x)
+whole_spelled {A} {Fits} {spelling} {read} form bytes x e =
+    let f = go_on-got (read bytes) at_end x [] e in
+    go f.first f.behind f.reads f.then_reads
+  where
+    go : (y : A) (behind : List ℕ) → read bytes ≡ Got y behind → at_end y behind ≡ Got x [] → Fits x × (bytes ≡ spelling x)
+    go y [] r t =
+        let same : y ≡ x = cc in
+        let s = form.spells bytes [] y r in
+        let there : A → Type 0 = λ z. Fits z × (bytes ≡ spelling z) in
+        subst there same (s.0, s.1 ∙ append-nil (spelling y))
+    go y (b ∷ bs) r t = absurd cc
+
+pub whole_read : {A : Type 0} {Fits : A → Type 0} {spelling : A → List ℕ} {read : Reader A} → IsRead Fits spelling read → (x : A) → Fits x → whole read (spelling x) ≡ Got x []
+whole_read {spelling = spelling} {read = read} form x fits = ap (λ bs. whole read bs) (sym (append-nil (spelling x))) ∙ ap (λ r. go_on r at_end) (form.reads x [] fits)

@@ -1,5 +1,6 @@
 -- Asks and Gives as bytes.
 use Rattle.std.specs.Prelude.{◌≡◌, ℕ, suc, ◌+◌, ◌-◌, ◌*◌, ◌≤◌, ◌<◌, Option, Some, None, List, [], ◌∷◌, ◌++◌, length}
+use Rattle.std.specs.List.{AllByRecursion}
 use Rattle.byte_forms.specs.Numbers.{number}
 use Rattle.byte_forms.specs.Reads.{Reader, ◌>>=◌, pure}
 use Rattle.byte_forms.specs.Fields.{number_in}
@@ -11,11 +12,11 @@ use Rattle.name_forms.specs.Gtids.{IsGtid, gtid_bytes, next_gtid}
 use Rattle.name_forms.specs.Ids.{last_u64}
 use Rattle.name_forms.specs.OpenParts.{OpenParts, IsOpenAfter, inc_of_parts, part_size, most_parts}
 use Rattle.gtid_sets.specs.Canonical.{IsCanonical}
-use Rattle.gtid_sets.specs.Spelling.{set_bytes, next_set}
+use Rattle.gtid_sets.specs.Spelling.{set_bytes, next_set, HasCounts}
 use Rattle.gtid_sets.specs.declared.told.ToldSet.{ToldSet}
 use Rattle.key_items.specs.declared.item.Item.{Item}
 use Rattle.key_items.specs.declared.item.KeptItem.{KeptItem}
-use Rattle.key_items.specs.Spelling.{IsItemAfter, item_bytes, next_item_after}
+use Rattle.key_items.specs.Spelling.{IsItemAfter, AreBytes, item_bytes, next_item_after}
 use Rattle.slot_values.specs.Slots.{last_slot}
 use Rattle.slot_values.specs.Spelling.{last_u32}
 pub use Rattle.paxos_forms.specs.declared.recovery.Ask.{Ask}
@@ -176,3 +177,10 @@ next_give = do
   txns ← list_of 0 (next_given_after place)
   parts ← list_of 0 next_parts_after
   pure (record { place = place; blocks = blocks; last = last; items = items; told = told; certified = certified; txns = txns; parts = parts })
+
+-- ---- what memory holds: bytes below 256, and sets whose counts fit four bytes
+
+pub record IsHeldGive (g : Give) : Type 0 where
+  pub items : AllByRecursion (λ x. AreBytes x.item) g.items
+  pub told : AllByRecursion (λ x. HasCounts x.set) g.told
+  pub certified : HasCounts g.certified

@@ -2,6 +2,7 @@
 use Rattle.std.proofs.Common.{◌≡◌, ℕ, zero, suc, ◌<◌, ◌≤◌, ◌^◌, List, [], ◌∷◌, ◌++◌, length, Option, Some, None, refl, sym, ap, ◌∙◌, arith, append_assoc}
 use Rattle.std.specs.Prelude.{slice_index_or}
 use Rattle.std.specs.List.{flat_map, AllByRecursion}
+use Rattle.std.proofs.lemmas.Bool.Decides.{nat_tests}
 use Rattle.byte_forms.specs.Numbers.{number}
 use Rattle.byte_forms.specs.Reads.{Read, Got, Fault, Reader, go_on, ◌>>=◌, pure}
 use Rattle.byte_forms.specs.Fields.{number_in, word}
@@ -68,14 +69,13 @@ joiner_after_form before = record {
       let numbers : b.behind ≡ ((number 8 c.first ++ (number 8 d.first ++ (number 8 f.first ++ []))) ++ number 1 w.first) ++ w.behind =
       c.parts ∙ ap (λ xs. number 8 c.first ++ xs) version ∙ sym (three (number 8 c.first) (number 8 d.first) (number 8 f.first) (number 1 w.first) w.behind) in
       ends (λ y more. IsJoinerAfter before y × (bytes ≡ joiner_bytes y ++ more)) _ x w.behind rest w.then_reads
-      (record { inc = a.fits; uuid = b.fits; parts = refl; small = (c.fits.1, d.fits.1, f.fits.1, tt); weight = w.fits.1 }, glue _ _ _ _ _ a.parts (glue _ _ _ _ _ b.parts numbers)));
+      (record { inc = a.fits; uuid = b.fits; parts = refl; small = (c.fits.1, (d.fits.1, (f.fits.1, tt))); weight = w.fits.1 }, glue _ _ _ _ _ a.parts (glue _ _ _ _ _ b.parts numbers)));
 }
 
 -- ---- what a value says
 
-above_zero : (n : ℕ) → 1 ≤ 3 → least_kind n ≤ 1
-above_zero zero h = omega arith
-above_zero (suc n) h = omega arith
+above_zero : (n : ℕ) → least_kind n ≤ 1
+above_zero n = grind (arith, nat_tests)
 
 kind_form : (n : ℕ) → IsForm (λ k. (least_kind n ≤ k) × (k ≤ 3) × (k < 256 ^ 1)) (number 1) (number_in 1 (least_kind n) 3)
 kind_form n = number_form 1 (least_kind n) 3 (omega arith)
@@ -89,19 +89,18 @@ what_reads n Noop rest fits =
     let low : least_kind n ≤ 0 = rw fits (omega arith) in
     reads_last (kind_form n) _ 0 rest (low, omega arith, omega arith)
 what_reads n (Add j) rest fits =
-    let low : least_kind n ≤ 1 = above_zero n (omega arith) in
+    let low : least_kind n ≤ 1 = above_zero n in
     reads_on (kind_form n) _ 1 (joiner_bytes j) rest (low, omega arith, omega arith) ∙ reads_last (joiner_after_form None) (λ i. pure (Add i)) j rest fits
 what_reads n (Remove i) rest fits =
-    let low : least_kind n ≤ 1 = above_zero n (omega arith) in
+    let low : least_kind n ≤ 1 = above_zero n in
     reads_on (kind_form n) _ 2 (inc_bytes i) rest (omega (arith, low), omega arith, omega arith) ∙ reads_last inc_form (λ j. pure (Remove j)) i rest fits
 what_reads n (Body b) rest fits =
-    let low : least_kind n ≤ 1 = above_zero n (omega arith) in
+    let low : least_kind n ≤ 1 = above_zero n in
     reads_on (kind_form n) _ 3 (counted b) rest (omega (arith, low), omega arith, omega arith) ∙ reads_last body_form (λ c. pure (Body c)) b rest (fits.0, fits.1, omega (arith, fits.1))
 
 -- a Noop has no other number than 0
 noop_number : (n : ℕ) → least_kind n ≤ 0 → n ≡ 0
-noop_number zero h = refl
-noop_number (suc n) h = absurd (omega (arith, h))
+noop_number n h = grind (arith, nat_tests)
 
 kind_spells : (n k : ℕ) (bytes rest : List ℕ) (x : What) → least_kind n ≤ k → k ≤ 3 → slice_index_or kinds k (pure Noop) bytes ≡ Got x rest → IsWhat n x × (number 1 k ++ bytes ≡ what_bytes x ++ rest)
 kind_spells n zero bytes rest x low high e =

@@ -70,10 +70,13 @@ index_there [] i h = absurd cc
 index_there (x ∷ xs) i h = go (item_eq i x) refl (λ k. index_there xs i k)
   where
     go : (t : Bool) → item_eq i x ≡ t → (has_item xs i ≡ true → (index_of i xs < length xs) × (slice_get xs (index_of i xs) ≡ Some i)) → (index_of i (x ∷ xs) < length (x ∷ xs)) × (slice_get (x ∷ xs) (index_of i (x ∷ xs)) ≡ Some i)
-    go true f later = (rw f (omega arith), rw f (ap (λ (j : Item). Some j) (sym (item_eq_same i x f))))
+    go true f later =
+        let at : index_of i (x ∷ xs) ≡ 0 = rw (index_of, f) refl in
+        (omega (arith, at), ap (slice_get (x ∷ xs)) at ∙ ap (λ (j : Item). Some j) (sym (item_eq_same i x f)))
     go false f later =
         let there = later (rw f at h) in
-        (rw f (omega (arith, there.0)), rw f there.1)
+        let at : index_of i (x ∷ xs) ≡ suc (index_of i xs) = rw (index_of, f) refl in
+        (omega (arith, at, there.0), ap (slice_get (x ∷ xs)) at ∙ there.1)
 
 has_at : (xs : List Item) (i : Item) (n : ℕ) → slice_get xs n ≡ Some i → has_item xs i ≡ true
 has_at [] i n e = absurd cc

@@ -1,8 +1,9 @@
 -- What the place of an origin's parts says of open parts that ascend by origin.
 use Rattle.std.proofs.Common.{◌≡◌, ℕ, zero, suc, ◌*◌, ◌<◌, ◌≤◌, Bool, true, false, Option, Some, None, List, [], ◌∷◌, ◌++◌, length, get_or, set, take, drop, IfSome, refl, sym, ap, subst, ◌∙◌, arith, eqb, eqb-true}
+use Rattle.std.specs.Prelude.{if◌then◌else◌}
 use Rattle.std.specs.List.{slice_get, insert, remove}
 use Rattle.std.specs.Option.{option_to_list}
-use Rattle.std.proofs.lemmas.Bool.{and_parts}
+use Rattle.std.proofs.lemmas.Bool.{and_parts, false≢true}
 use Rattle.std.proofs.lemmas.Bool.Decides.{nat_tests}
 use Rattle.byte_forms.specs.Lists.{IsChain}
 use Rattle.gr_ids.specs.declared.names.Inc.{Inc}
@@ -231,3 +232,78 @@ pub remove_set : (ps : List OpenParts) (at : ℕ) (y : OpenParts) → remove (se
 remove_set [] at y = refl
 remove_set (p ∷ ps) zero y = refl
 remove_set (p ∷ ps) (suc at) y = ap (λ l. p ∷ l) (remove_set ps at y)
+
+pub chain_without : (ps : List OpenParts) (before : Option OpenParts) (o : Inc) → IsChain IsOpenAfter before ps → IsChain IsOpenAfter before (with_parts ps o None)
+chain_without [] before o h = tt
+chain_without (p ∷ ps) before o h = by_order (inc_lt p.origin o) refl (chain_without ps (Some p) o h.1)
+  where
+    take_out : (t : Bool) → IsChain IsOpenAfter before (elim t [ true ↦ ps | false ↦ p ∷ ps ])
+    take_out true = chain_skip before p ps h.0 h.1
+    take_out false = h
+
+    by_order : (t : Bool) → inc_lt p.origin o ≡ t → IsChain IsOpenAfter (Some p) (with_parts ps o None) → IsChain IsOpenAfter before (with_parts (p ∷ ps) o None)
+    by_order true e later = rw (with_parts, e) (h.0, later)
+    by_order false e later = rw (with_parts, e) (take_out (inc_eq p.origin o))
+
+-- ---- what is found after it was put
+
+found_front : (p : OpenParts) (ps : List OpenParts) (q : Inc) → parts_of (p ∷ ps) q ≡ (if inc_eq p.origin q then Some p else parts_of ps q)
+found_front p ps q = go (inc_eq p.origin q) refl
+  where
+    go : (t : Bool) → inc_eq p.origin q ≡ t → parts_of (p ∷ ps) q ≡ (if inc_eq p.origin q then Some p else parts_of ps q)
+    go true e = rw (parts_of, e) refl
+    go false e = rw (parts_of, e) refl
+
+either_way : (t : Bool) (w : Option OpenParts) → w ≡ (if t then w else w)
+either_way true w = refl
+either_way false w = refl
+
+-- behind the parts of an origin there are no others of it
+none_above_same : (p : OpenParts) (ps : List OpenParts) (o : Inc) → IsChain IsOpenAfter (Some p) ps → inc_eq p.origin o ≡ true → parts_of ps o ≡ None
+none_above_same p [] o h e = refl
+none_above_same p (q ∷ qs) o h e =
+    let above : inc_lt o q.origin ≡ true = ap (λ (i : Inc). inc_lt i q.origin) (sym (inc_same p.origin o e)) ∙ h.0.origin.1 in
+    rw (parts_of, above_other q.origin o above) (none_above q qs o h.1 above)
+
+pub parts_of-with_parts : (ps : List OpenParts) (before : Option OpenParts) (o q : Inc) (w : Option OpenParts) → IsChain IsOpenAfter before ps → IfSome w (λ p. p.origin ≡ o) → parts_of (with_parts ps o w) q ≡ (if inc_eq o q then w else parts_of ps q)
+parts_of-with_parts [] before o q None h f = either_way (inc_eq o q) None
+parts_of-with_parts [] before o q (Some x) h f = found_front x [] q ∙ ap (λ (i : Inc). if inc_eq i q then Some x else None) f
+parts_of-with_parts (p ∷ ps) before o q w h f = by_order (inc_lt p.origin o) refl (parts_of-with_parts ps (Some p) o q w h.1 f)
+  where
+    -- the first one isn't the origin's
+    pass : inc_eq p.origin o ≡ false → (s : Option OpenParts) → s ≡ (if inc_eq o q then w else parts_of ps q) → (if inc_eq p.origin q then Some p else s) ≡ (if inc_eq o q then w else parts_of (p ∷ ps) q)
+    pass other s e = go (inc_eq o q) (inc_eq p.origin q) refl refl e
+      where
+        go : (t u : Bool) → inc_eq o q ≡ t → inc_eq p.origin q ≡ u → s ≡ (if t then w else parts_of ps q) → (if u then Some p else s) ≡ (if t then w else parts_of (p ∷ ps) q)
+        go true true et eu k =
+            let same : inc_eq p.origin o ≡ true = ap (inc_eq p.origin) (inc_same o q et) ∙ eu in
+            absurd (false≢true (sym other ∙ same))
+        go true false et eu k = k
+        go false true et eu k = sym (found_front p ps q ∙ ap (λ (t : Bool). if t then Some p else parts_of ps q) eu)
+        go false false et eu k = k ∙ sym (found_front p ps q ∙ ap (λ (t : Bool). if t then Some p else parts_of ps q) eu)
+
+    put : (s : Option OpenParts) → IfSome s (λ x. x.origin ≡ o) → inc_lt p.origin o ≡ false → (t : Bool) → inc_eq p.origin o ≡ t → parts_of (option_to_list s ++ elim t [ true ↦ ps | false ↦ p ∷ ps ]) q ≡ (if inc_eq o q then s else parts_of (p ∷ ps) q)
+    put None g low true e =
+        gone (inc_eq o q) refl
+      where
+        gone : (t : Bool) → inc_eq o q ≡ t → parts_of ps q ≡ (if t then None else parts_of (p ∷ ps) q)
+        gone true et = none_above_same p ps q h.1 (ap (λ (i : Inc). inc_eq i q) (inc_same p.origin o e) ∙ et)
+        gone false et = sym (found_front p ps q ∙ ap (λ (t : Bool). if t then Some p else parts_of ps q) (ap (λ (i : Inc). inc_eq i q) (inc_same p.origin o e) ∙ et))
+    put None g low false e = stays (inc_eq o q) refl
+      where
+        stays : (t : Bool) → inc_eq o q ≡ t → parts_of (p ∷ ps) q ≡ (if t then None else parts_of (p ∷ ps) q)
+        stays true et =
+            let above = else_above p.origin o low e in
+            let at_q : inc_lt q p.origin ≡ true = ap (λ (i : Inc). inc_lt i p.origin) (sym (inc_same o q et)) ∙ above in
+            rw (parts_of, above_other p.origin q at_q) (none_above p ps q h.1 at_q)
+        stays false et = refl
+    put (Some x) g low t e = found_front x _ q ∙ ap (λ (i : Inc). if inc_eq i q then Some x else parts_of (elim t [ true ↦ ps | false ↦ p ∷ ps ]) q) g ∙ others t e (inc_eq o q) refl
+      where
+        others : (t : Bool) → inc_eq p.origin o ≡ t → (u : Bool) → inc_eq o q ≡ u → (if u then Some x else parts_of (elim t [ true ↦ ps | false ↦ p ∷ ps ]) q) ≡ (if u then Some x else parts_of (p ∷ ps) q)
+        others t e true eu = refl
+        others false e false eu = refl
+        others true e false eu = sym (found_front p ps q ∙ ap (λ (t : Bool). if t then Some p else parts_of ps q) (ap (λ (i : Inc). inc_eq i q) (inc_same p.origin o e) ∙ eu))
+
+    by_order : (t : Bool) → inc_lt p.origin o ≡ t → parts_of (with_parts ps o w) q ≡ (if inc_eq o q then w else parts_of ps q) → parts_of (with_parts (p ∷ ps) o w) q ≡ (if inc_eq o q then w else parts_of (p ∷ ps) q)
+    by_order true e later = rw (with_parts, e) (found_front p (with_parts ps o w) q ∙ pass (below_other p.origin o e) (parts_of (with_parts ps o w) q) later)
+    by_order false e later = rw (with_parts, e) (put w f e (inc_eq p.origin o) refl)

@@ -32,6 +32,7 @@ pub fn encode(alloc: Global, body: &Body) -> Result<Blob, Memory>
 /// Linear in the bytes: what a count says takes no memory before it is there.
 pub fn decode(alloc: Global, bytes: &[u8]) -> Result<Body, BodyFault>
     ensures ok { IfOk result (λ body. whole next_body bytes.now ≡ Got body []) }
+    ensures spelled { IfOk result (λ body. IsBody body × (bytes.now ≡ body_bytes body)) }
     ensures bad { IfErr result (λ e. IsFault bytes.now e) }
 {
     let mut from = Cutter::new(bytes);
