@@ -1,5 +1,5 @@
 -- The two sides of the forms of Asks and Gives.
-use Rattle.std.proofs.Common.{◌≡◌, ℕ, suc, ◌+◌, ◌-◌, ◌*◌, ◌<◌, ◌≤◌, ◌^◌, List, [], ◌∷◌, ◌++◌, length, Option, Some, None, refl, sym, ap, ◌∙◌, arith}
+use Rattle.std.proofs.Common.{◌≡◌, ℕ, suc, ◌+◌, ◌-◌, ◌*◌, ◌<◌, ◌≤◌, ◌^◌, List, [], ◌∷◌, ◌++◌, length, Option, Some, None, refl, sym, ap, subst, ◌∙◌, arith}
 use Rattle.std.specs.List.{AllByRecursion}
 use Rattle.byte_forms.specs.Numbers.{number}
 use Rattle.byte_forms.specs.Reads.{Got, Reader, ◌>>=◌, pure}
@@ -198,22 +198,82 @@ give_read = record {
       ∙ reads_last all_parts_form _ g.parts rest (fits.0.parts, omega arith, omega (arith, fits.0.few_parts)));
 }
 
+-- what is read behind the kept items
+behind_items : (place blocks : ℕ) (last : List LastNumber) (items : List KeptItem) → Reader Give
+behind_items place blocks last items = do
+  told ← list_of 0 next_told_after
+  certified ← next_set
+  txns ← list_of 0 (next_given_after place)
+  parts ← list_of 0 next_parts_after
+  pure (record { place = place; blocks = blocks; last = last; items = items; told = told; certified = certified; txns = txns; parts = parts })
+
+abbrev behind_items_bytes : Give → List ℕ
+behind_items_bytes g = several told_bytes g.told ++ (set_bytes g.certified ++ (several given_bytes g.txns ++ several parts_bytes g.parts))
+
+record BehindItems (place blocks : ℕ) (last : List LastNumber) (items : List KeptItem) (bytes : List ℕ) (g : Give) (rest : List ℕ) : Type 0 where
+  pub place_is : place ≡ g.place
+  pub blocks_is : blocks ≡ g.blocks
+  pub last_is : last ≡ g.last
+  pub items_is : items ≡ g.items
+  pub told : IsChain IsToldAfter None g.told
+  pub few_told : length g.told ≤ last_u32
+  pub certified : IsCanonical g.certified
+  pub txns : IsChain (IsGivenAfter place) None g.txns
+  pub few_txns : length g.txns ≤ last_u32
+  pub parts_open : IsChain IsOpenAfter None g.parts
+  pub few_parts : length g.parts ≤ last_u32
+  pub parts : bytes ≡ behind_items_bytes g ++ rest
+
+small : (n : ℕ) → n < 2 ^ 32 → n ≤ last_u32
+small n h = omega (arith, h)
+
+behind_items_spelled : (place blocks : ℕ) (last : List LastNumber) (items : List KeptItem) (bytes rest : List ℕ) (x : Give) → behind_items place blocks last items bytes ≡ Got x rest → BehindItems place blocks last items bytes x rest
+unfolding behind_items
+behind_items_spelled place blocks last items bytes rest x e =
+    let f = spelled_step tolds_spelled _ bytes rest x e in
+    let g = step set_form _ f.behind rest x f.then_reads in
+    let h = spelled_step (givens_spelled place) _ g.behind rest x g.then_reads in
+    let p = step all_parts_form _ h.behind rest x h.then_reads in
+    ends (λ y more. BehindItems place blocks last items bytes y more) _ x p.behind rest p.then_reads
+    (record {
+      place_is = refl; blocks_is = refl; last_is = refl; items_is = refl;
+      told = f.fits.0; few_told = small _ f.fits.2; certified = g.fits.0; txns = h.fits.0; few_txns = small _ h.fits.2; parts_open = p.fits.0; few_parts = small _ p.fits.2;
+      parts = glue _ _ _ _ _ f.parts (glue _ _ _ _ _ g.parts (glue _ _ _ _ _ h.parts p.parts));
+    })
+
+-- the parts before, which those behind the kept items name again
+same_state : (place blocks : ℕ) (last : List LastNumber) (items : List KeptItem) (g : Give) → place ≡ g.place → blocks ≡ g.blocks → last ≡ g.last → items ≡ g.items
+    → number 8 place ++ (number 8 blocks ++ (several last_bytes last ++ (several kept_bytes items ++ behind_items_bytes g))) ≡ give_bytes g
+same_state place blocks last items g ep eb el ei =
+    ap (λ n. number 8 n ++ (number 8 blocks ++ (several last_bytes last ++ (several kept_bytes items ++ behind_items_bytes g)))) ep
+    ∙ ap (λ n. number 8 g.place ++ (number 8 n ++ (several last_bytes last ++ (several kept_bytes items ++ behind_items_bytes g)))) eb
+    ∙ ap (λ (xs : List LastNumber). number 8 g.place ++ (number 8 g.blocks ++ (several last_bytes xs ++ (several kept_bytes items ++ behind_items_bytes g)))) el
+    ∙ ap (λ (xs : List KeptItem). number 8 g.place ++ (number 8 g.blocks ++ (several last_bytes g.last ++ (several kept_bytes xs ++ behind_items_bytes g)))) ei
+
+is_give : (place blocks : ℕ) (last : List LastNumber) (items : List KeptItem) (bytes : List ℕ) (g : Give) (rest : List ℕ) → BehindItems place blocks last items bytes g rest
+    → 1 ≤ place → place ≤ last_slot → blocks ≤ place → IsListed 0 IsLastAfter last → IsListed 0 (IsKeptAfter place) items → IsGive g
+is_give place blocks last items bytes g rest b p1 p2 q lasts kepts =
+    let lasts' : IsListed 0 IsLastAfter g.last = subst (λ (xs : List LastNumber). IsListed 0 IsLastAfter xs) b.last_is lasts in
+    let kepts' : IsListed 0 (IsKeptAfter place) g.items = subst (λ (xs : List KeptItem). IsListed 0 (IsKeptAfter place) xs) b.items_is kepts in
+    record {
+      place_above = omega (arith, b.place_is, p1); place_below = omega (arith, b.place_is, p2); blocks = omega (arith, b.place_is, b.blocks_is, q);
+      last = lasts'.0; few_last = small (length g.last) lasts'.2;
+      items = subst (λ (n : ℕ). IsChain (IsKeptAfter n) None g.items) b.place_is kepts'.0; few_items = small (length g.items) kepts'.2;
+      told = b.told; few_told = b.few_told; certified = b.certified;
+      txns = subst (λ (n : ℕ). IsChain (IsGivenAfter n) None g.txns) b.place_is b.txns; few_txns = b.few_txns; parts = b.parts_open; few_parts = b.few_parts;
+    }
+
 pub give_spelled : IsSpelled IsGive give_bytes next_give
-unfolding next_give
+unfolding next_give behind_items
 give_spelled = record {
   spells = λ bytes rest x e.
       (let a = step place_form _ bytes rest x e in
       let b = step (number_form 8 0 a.first (omega arith)) _ a.behind rest x a.then_reads in
       let c = step lasts_form _ b.behind rest x b.then_reads in
       let d = spelled_step (kepts_spelled a.first) _ c.behind rest x c.then_reads in
-      let f = spelled_step tolds_spelled _ d.behind rest x d.then_reads in
-      let g = step set_form _ f.behind rest x f.then_reads in
-      let h = spelled_step (givens_spelled a.first) _ g.behind rest x g.then_reads in
-      let p = step all_parts_form _ h.behind rest x h.then_reads in
-      ends (λ y more. IsGive y × (bytes ≡ give_bytes y ++ more)) _ x p.behind rest p.then_reads
-      (record {
-        place_above = a.fits.0; place_below = a.fits.1; blocks = b.fits.1;
-        last = c.fits.0; few_last = omega (arith, c.fits.2); items = d.fits.0; few_items = omega (arith, d.fits.2); told = f.fits.0; few_told = omega (arith, f.fits.2);
-        certified = g.fits.0; txns = h.fits.0; few_txns = omega (arith, h.fits.2); parts = p.fits.0; few_parts = omega (arith, p.fits.2);
-      }, glue _ _ _ _ _ a.parts (glue _ _ _ _ _ b.parts (glue _ _ _ _ _ c.parts (glue _ _ _ _ _ d.parts (glue _ _ _ _ _ f.parts (glue _ _ _ _ _ g.parts (glue _ _ _ _ _ h.parts p.parts))))))));
+      let g = behind_items_spelled a.first b.first c.first d.first d.behind rest x d.then_reads in (
+        is_give a.first b.first c.first d.first d.behind x rest g a.fits.0 a.fits.1 b.fits.1 c.fits d.fits,
+        glue _ _ _ _ _ a.parts (glue _ _ _ _ _ b.parts (glue _ _ _ _ _ c.parts (glue _ _ _ _ _ d.parts g.parts)))
+        ∙ ap (λ xs. xs ++ rest) (same_state a.first b.first c.first d.first x g.place_is g.blocks_is g.last_is g.items_is),
+      ));
 }

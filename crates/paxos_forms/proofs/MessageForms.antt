@@ -15,7 +15,8 @@ use Rattle.slot_values.specs.Spelling.{IsVoteAfter, vote_bytes, value_bytes, nex
 use Rattle.slot_values.proofs.ValueForms.{value_form, vote_after_form}
 use Rattle.paxos_forms.specs.Welcomes.{welcome_bytes}
 use Rattle.paxos_forms.specs.Gives.{ask_bytes, give_bytes}
-use Rattle.paxos_forms.specs.Messages.{Message, Wire, Prepare, Promise, Accept, Accepted, Learn, Offer, Alive, Gone, wire, IsNextSlot, next_slot, next_from_slot, wire_bytes, IsWire, next_prepare, next_promise, next_accept, next_accepted, next_learn, kinds, next_wire, IsMessage, message_bytes, next_message, IsHeld}
+use Rattle.paxos_forms.specs.Messages.{Message, Wire, Prepare, Promise, Accept, Accepted, Learn, Offer, Alive, Gone, IsNextSlot, next_slot, next_from_slot, wire_bytes, IsWire, next_prepare, next_promise, next_accept, next_accepted, next_learn, kinds, next_wire, IsMessage, message_bytes, next_message, IsHeld}
+use Rattle.paxos_forms.specs.declared.message.Wire.TheVariants as wire
 use Rattle.paxos_forms.proofs.WelcomeForms.{welcome_form}
 use Rattle.paxos_forms.proofs.GiveForms.{ask_read, ask_spelled, give_read, give_spelled}
 

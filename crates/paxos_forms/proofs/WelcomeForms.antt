@@ -1,5 +1,5 @@
 -- The two sides of the form of a Welcome.
-use Rattle.std.proofs.Common.{◌≡◌, ℕ, zero, suc, ◌+◌, ◌<◌, ◌≤◌, ◌^◌, List, [], ◌∷◌, ◌++◌, length, Option, Some, None, refl, sym, ap, ◌∙◌, arith}
+use Rattle.std.proofs.Common.{◌≡◌, ℕ, zero, suc, ◌+◌, ◌<◌, ◌≤◌, ◌^◌, List, [], ◌∷◌, ◌++◌, length, Option, Some, None, refl, sym, ap, subst, ◌∙◌, arith}
 use Rattle.std.specs.Prelude.{slice_index_or, ◌==◌, if◌then◌else◌}
 use Rattle.std.specs.List.{AllByRecursion}
 use Rattle.byte_forms.specs.Numbers.{number}
@@ -10,12 +10,13 @@ use Rattle.byte_forms.specs.Forms.{IsForm}
 use Rattle.byte_forms.proofs.FormLemmas.{IsListed, number_form, list_form, step, ends, glue, reads_on, reads_last}
 use Rattle.byte_forms.proofs.ListLemmas.{chain_all}
 use Rattle.gr_ids.specs.declared.names.Inc.{Inc}
+use Rattle.gr_ids.specs.declared.names.Ballot.{Ballot}
 use Rattle.gr_ids.specs.declared.levels.MemberState.{MemberState}
 use Rattle.gr_ids.specs.declared.levels.MemberState.TheVariants.{Offline, Recovering, Online, Error}
 use Rattle.gr_ids.specs.declared.levels.Mode.{Mode}
 use Rattle.gr_ids.specs.declared.levels.Mode.TheVariants as mode
 use Rattle.name_forms.specs.Incs.{IsInc, IsIncAfter, inc_bytes, next_inc, next_inc_after}
-use Rattle.name_forms.specs.Ballots.{ballot_bytes}
+use Rattle.name_forms.specs.Ballots.{IsBallot, ballot_bytes}
 use Rattle.name_forms.proofs.NameLaws.{inc_form, inc_after_form, ballot_form}
 use Rattle.slot_values.specs.Slots.{last_slot}
 use Rattle.slot_values.specs.Spelling.{last_u32}
@@ -171,26 +172,93 @@ welcome_reads w rest fits =
     ∙ reads_on ever_form _ w.ever behind_ever rest (fits.ever, omega arith, omega (arith, fits.few_ever))
     ∙ reads_last configs_form _ w.configs rest (chain_of_all IsConfig None w.configs fits.configs, omega arith, omega (arith, fits.few_configs))
 
+-- what is read behind the mode
+behind_mode : (slot place view : ℕ) (promise : Ballot) (m : Mode) → Reader Welcome
+behind_mode slot place view promise m = do
+  primary ← next_primary
+  elected ← number_in 8 0 place
+  members ← list_of 0 (next_member_after place)
+  ever ← list_of 0 next_inc_after
+  configs ← list_of 0 (λ before. next_config)
+  pure (record { slot = slot; place = place; number = view; promise = promise; mode = m; primary = primary; elected = elected; members = members; ever = ever; configs = configs })
+
+abbrev behind_mode_bytes : Welcome → List ℕ
+behind_mode_bytes w = primary_bytes w.primary ++ (number 8 w.elected ++ (several member_bytes w.members ++ (several inc_bytes w.ever ++ several config_bytes w.configs)))
+
+record BehindMode (slot place view : ℕ) (promise : Ballot) (m : Mode) (bytes : List ℕ) (w : Welcome) (rest : List ℕ) : Type 0 where
+  pub slot_is : slot ≡ w.slot
+  pub place_is : place ≡ w.place
+  pub view_is : view ≡ w.number
+  pub promise_is : promise ≡ w.promise
+  pub mode_is : m ≡ w.mode
+  pub primary : IsPrimary w.primary
+  pub elected : w.elected ≤ place
+  pub members : IsChain (IsMemberAfter place) None w.members
+  pub few_members : length w.members ≤ last_u32
+  pub ever : IsChain IsIncAfter None w.ever
+  pub few_ever : length w.ever ≤ last_u32
+  pub configs : AllByRecursion IsConfig w.configs
+  pub few_configs : length w.configs ≤ last_u32
+  pub parts : bytes ≡ behind_mode_bytes w ++ rest
+
+behind_mode_spelled : (slot place view : ℕ) (promise : Ballot) (m : Mode) → place ≤ last_slot → (bytes rest : List ℕ) (x : Welcome) → behind_mode slot place view promise m bytes ≡ Got x rest → BehindMode slot place view promise m bytes x rest
+unfolding behind_mode
+behind_mode_spelled slot place view promise m few bytes rest x e =
+    let g = step primary_form _ bytes rest x e in
+    let h = step (number_form 8 0 place (omega arith)) _ g.behind rest x g.then_reads in
+    let n = step (members_form place few) _ h.behind rest x h.then_reads in
+    let v = step ever_form _ n.behind rest x n.then_reads in
+    let k = step configs_form _ v.behind rest x v.then_reads in
+    ends (λ y more. BehindMode slot place view promise m bytes y more) _ x k.behind rest k.then_reads
+    (record {
+      slot_is = refl; place_is = refl; view_is = refl; promise_is = refl; mode_is = refl;
+      primary = g.fits; elected = h.fits.1; members = n.fits.0; few_members = small n.fits.2; ever = v.fits.0; few_ever = small v.fits.2;
+      configs = chain_all (λ b c. IsConfig c) IsConfig (λ b c is. is) None k.first k.fits.0; few_configs = small k.fits.2;
+      parts = glue _ _ _ _ _ g.parts (glue _ _ _ _ _ h.parts (glue _ _ _ _ _ n.parts (glue _ _ _ _ _ v.parts k.parts)));
+    })
+  where
+    small : {n : ℕ} → n < 2 ^ 32 → n ≤ last_u32
+    small h = omega (arith, h)
+
+-- the numbers of a Welcome, which the parts behind the mode name again
+same_numbers : (slot place view : ℕ) (promise : Ballot) (m : Mode) (w : Welcome) → slot ≡ w.slot → place ≡ w.place → view ≡ w.number → promise ≡ w.promise → m ≡ w.mode
+    → number 8 slot ++ (number 8 place ++ (number 8 view ++ (ballot_bytes promise ++ (number 1 (mode_number m) ++ behind_mode_bytes w)))) ≡ welcome_bytes w
+same_numbers slot place view promise m w es ep ev eb em =
+    ap (λ n. number 8 n ++ (number 8 place ++ (number 8 view ++ (ballot_bytes promise ++ (number 1 (mode_number m) ++ behind_mode_bytes w))))) es
+    ∙ ap (λ n. number 8 w.slot ++ (number 8 n ++ (number 8 view ++ (ballot_bytes promise ++ (number 1 (mode_number m) ++ behind_mode_bytes w))))) ep
+    ∙ ap (λ n. number 8 w.slot ++ (number 8 w.place ++ (number 8 n ++ (ballot_bytes promise ++ (number 1 (mode_number m) ++ behind_mode_bytes w))))) ev
+    ∙ ap (λ (b : Ballot). number 8 w.slot ++ (number 8 w.place ++ (number 8 w.number ++ (ballot_bytes b ++ (number 1 (mode_number m) ++ behind_mode_bytes w))))) eb
+    ∙ ap (λ (k : Mode). number 8 w.slot ++ (number 8 w.place ++ (number 8 w.number ++ (ballot_bytes w.promise ++ (number 1 (mode_number k) ++ behind_mode_bytes w))))) em
+
+is_welcome : (slot place view : ℕ) (promise : Ballot) (m : Mode) (bytes : List ℕ) (w : Welcome) (rest : List ℕ) → BehindMode slot place view promise m bytes w rest
+    → 1 ≤ slot → slot ≤ last_slot → 1 ≤ place → place ≤ slot → 1 ≤ view → view ≤ place + 1 → IsBallot promise → IsWelcome w
+is_welcome slot place view promise m bytes w rest b s1 s2 p1 p2 v1 v2 ok =
+    record {
+      slot_above = omega (arith, b.slot_is, s1); slot_below = omega (arith, b.slot_is, s2);
+      place_above = omega (arith, b.place_is, p1); place_below = omega (arith, b.place_is, b.slot_is, p2);
+      number_above = omega (arith, b.view_is, v1); number_below = omega (arith, b.view_is, b.place_is, v2);
+      promise = subst IsBallot b.promise_is ok; primary = b.primary; elected = omega (arith, b.place_is, b.elected);
+      members = subst (λ (n : ℕ). IsChain (IsMemberAfter n) None w.members) b.place_is b.members; few_members = b.few_members;
+      ever = b.ever; few_ever = b.few_ever; configs = b.configs; few_configs = b.few_configs;
+    }
+
 pub welcome_form : IsForm IsWelcome welcome_bytes next_welcome
-unfolding next_welcome
+unfolding next_welcome behind_mode
 welcome_form = record {
   reads = λ w rest fits. welcome_reads w rest fits;
   spells = λ bytes rest x e.
       (let a = step slot_form _ bytes rest x e in
       let b = step (number_form 8 1 a.first (omega arith)) _ a.behind rest x a.then_reads in
-      let few : b.first ≤ last_slot = omega (arith, a.fits.1, b.fits.1) in
       let c = step (number_form 8 1 (b.first + 1) (omega arith)) _ b.behind rest x b.then_reads in
       let d = step ballot_form _ c.behind rest x c.then_reads in
       let f = step mode_form _ d.behind rest x d.then_reads in
-      let g = step primary_form _ f.behind rest x f.then_reads in
-      let h = step (number_form 8 0 b.first (omega arith)) _ g.behind rest x g.then_reads in
-      let m = step (members_form b.first few) _ h.behind rest x h.then_reads in
-      let v = step ever_form _ m.behind rest x m.then_reads in
-      let k = step configs_form _ v.behind rest x v.then_reads in
-      ends (λ y more. IsWelcome y × (bytes ≡ welcome_bytes y ++ more)) _ x k.behind rest k.then_reads
-      (record {
-        slot_above = a.fits.0; slot_below = a.fits.1; place_above = b.fits.0; place_below = b.fits.1; number_above = c.fits.0; number_below = c.fits.1;
-        promise = d.fits; primary = g.fits; elected = h.fits.1; members = m.fits.0; few_members = omega (arith, m.fits.2); ever = v.fits.0; few_ever = omega (arith, v.fits.2);
-        configs = chain_all (λ b c. IsConfig c) IsConfig (λ b c is. is) None k.first k.fits.0; few_configs = omega (arith, k.fits.2);
-      }, glue _ _ _ _ _ a.parts (glue _ _ _ _ _ b.parts (glue _ _ _ _ _ c.parts (glue _ _ _ _ _ d.parts (glue _ _ _ _ _ f.parts (glue _ _ _ _ _ g.parts (glue _ _ _ _ _ h.parts (glue _ _ _ _ _ m.parts (glue _ _ _ _ _ v.parts k.parts))))))))));
+      let few : b.first ≤ last_slot = le_le b.first a.first last_slot b.fits.1 a.fits.1 in
+      let g = behind_mode_spelled a.first b.first c.first d.first f.first few f.behind rest x f.then_reads in (
+        is_welcome a.first b.first c.first d.first f.first f.behind x rest g a.fits.0 a.fits.1 b.fits.0 b.fits.1 c.fits.0 c.fits.1 d.fits,
+        glue _ _ _ _ _ a.parts (glue _ _ _ _ _ b.parts (glue _ _ _ _ _ c.parts (glue _ _ _ _ _ d.parts (glue _ _ _ _ _ f.parts g.parts))))
+        ∙ ap (λ xs. xs ++ rest) (same_numbers a.first b.first c.first d.first f.first x g.slot_is g.place_is g.view_is g.promise_is g.mode_is),
+      ));
 }
+  where
+    le_le : (a b c : ℕ) → a ≤ b → b ≤ c → a ≤ c
+    le_le a b c h k = omega (arith, h, k)
