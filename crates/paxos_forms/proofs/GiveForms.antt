@@ -236,8 +236,17 @@ behind_items_spelled place blocks last items bytes rest x e =
     let p = step all_parts_form _ h.behind rest x h.then_reads in
     ends (λ y more. BehindItems place blocks last items bytes y more) _ x p.behind rest p.then_reads
     (record {
-      place_is = refl; blocks_is = refl; last_is = refl; items_is = refl;
-      told = f.fits.0; few_told = small _ f.fits.2; certified = g.fits.0; txns = h.fits.0; few_txns = small _ h.fits.2; parts_open = p.fits.0; few_parts = small _ p.fits.2;
+      place_is = refl;
+      blocks_is = refl;
+      last_is = refl;
+      items_is = refl;
+      told = f.fits.0;
+      few_told = small _ f.fits.2;
+      certified = g.fits.0;
+      txns = h.fits.0;
+      few_txns = small _ h.fits.2;
+      parts_open = p.fits.0;
+      few_parts = small _ p.fits.2;
       parts = glue _ _ _ _ _ f.parts (glue _ _ _ _ _ g.parts (glue _ _ _ _ _ h.parts p.parts));
     })
 
@@ -256,11 +265,20 @@ is_give place blocks last items bytes g rest b p1 p2 q lasts kepts =
     let lasts' : IsListed 0 IsLastAfter g.last = subst (λ (xs : List LastNumber). IsListed 0 IsLastAfter xs) b.last_is lasts in
     let kepts' : IsListed 0 (IsKeptAfter place) g.items = subst (λ (xs : List KeptItem). IsListed 0 (IsKeptAfter place) xs) b.items_is kepts in
     record {
-      place_above = omega (arith, b.place_is, p1); place_below = omega (arith, b.place_is, p2); blocks = omega (arith, b.place_is, b.blocks_is, q);
-      last = lasts'.0; few_last = small (length g.last) lasts'.2;
-      items = subst (λ (n : ℕ). IsChain (IsKeptAfter n) None g.items) b.place_is kepts'.0; few_items = small (length g.items) kepts'.2;
-      told = b.told; few_told = b.few_told; certified = b.certified;
-      txns = subst (λ (n : ℕ). IsChain (IsGivenAfter n) None g.txns) b.place_is b.txns; few_txns = b.few_txns; parts = b.parts_open; few_parts = b.few_parts;
+      place_above = omega (arith, b.place_is, p1);
+      place_below = omega (arith, b.place_is, p2);
+      blocks = omega (arith, b.place_is, b.blocks_is, q);
+      last = lasts'.0;
+      few_last = small (length g.last) lasts'.2;
+      items = subst (λ (n : ℕ). IsChain (IsKeptAfter n) None g.items) b.place_is kepts'.0;
+      few_items = small (length g.items) kepts'.2;
+      told = b.told;
+      few_told = b.few_told;
+      certified = b.certified;
+      txns = subst (λ (n : ℕ). IsChain (IsGivenAfter n) None g.txns) b.place_is b.txns;
+      few_txns = b.few_txns;
+      parts = b.parts_open;
+      few_parts = b.few_parts;
     }
 
 pub give_spelled : IsSpelled IsGive give_bytes next_give
@@ -274,6 +292,6 @@ give_spelled = record {
       let g = behind_items_spelled a.first b.first c.first d.first d.behind rest x d.then_reads in (
         is_give a.first b.first c.first d.first d.behind x rest g a.fits.0 a.fits.1 b.fits.1 c.fits d.fits,
         glue _ _ _ _ _ a.parts (glue _ _ _ _ _ b.parts (glue _ _ _ _ _ c.parts (glue _ _ _ _ _ d.parts g.parts)))
-        ∙ ap (λ xs. xs ++ rest) (same_state a.first b.first c.first d.first x g.place_is g.blocks_is g.last_is g.items_is),
+            ∙ ap (λ xs. xs ++ rest) (same_state a.first b.first c.first d.first x g.place_is g.blocks_is g.last_is g.items_is),
       ));
 }

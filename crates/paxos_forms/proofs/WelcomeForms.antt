@@ -211,9 +211,19 @@ behind_mode_spelled slot place view promise m few bytes rest x e =
     let k = step configs_form _ v.behind rest x v.then_reads in
     ends (λ y more. BehindMode slot place view promise m bytes y more) _ x k.behind rest k.then_reads
     (record {
-      slot_is = refl; place_is = refl; view_is = refl; promise_is = refl; mode_is = refl;
-      primary = g.fits; elected = h.fits.1; members = n.fits.0; few_members = small n.fits.2; ever = v.fits.0; few_ever = small v.fits.2;
-      configs = chain_all (λ b c. IsConfig c) IsConfig (λ b c is. is) None k.first k.fits.0; few_configs = small k.fits.2;
+      slot_is = refl;
+      place_is = refl;
+      view_is = refl;
+      promise_is = refl;
+      mode_is = refl;
+      primary = g.fits;
+      elected = h.fits.1;
+      members = n.fits.0;
+      few_members = small n.fits.2;
+      ever = v.fits.0;
+      few_ever = small v.fits.2;
+      configs = chain_all (λ b c. IsConfig c) IsConfig (λ b c is. is) None k.first k.fits.0;
+      few_configs = small k.fits.2;
       parts = glue _ _ _ _ _ g.parts (glue _ _ _ _ _ h.parts (glue _ _ _ _ _ n.parts (glue _ _ _ _ _ v.parts k.parts)));
     })
   where
@@ -234,12 +244,21 @@ is_welcome : (slot place view : ℕ) (promise : Ballot) (m : Mode) (bytes : List
     → 1 ≤ slot → slot ≤ last_slot → 1 ≤ place → place ≤ slot → 1 ≤ view → view ≤ place + 1 → IsBallot promise → IsWelcome w
 is_welcome slot place view promise m bytes w rest b s1 s2 p1 p2 v1 v2 ok =
     record {
-      slot_above = omega (arith, b.slot_is, s1); slot_below = omega (arith, b.slot_is, s2);
-      place_above = omega (arith, b.place_is, p1); place_below = omega (arith, b.place_is, b.slot_is, p2);
-      number_above = omega (arith, b.view_is, v1); number_below = omega (arith, b.view_is, b.place_is, v2);
-      promise = subst IsBallot b.promise_is ok; primary = b.primary; elected = omega (arith, b.place_is, b.elected);
-      members = subst (λ (n : ℕ). IsChain (IsMemberAfter n) None w.members) b.place_is b.members; few_members = b.few_members;
-      ever = b.ever; few_ever = b.few_ever; configs = b.configs; few_configs = b.few_configs;
+      slot_above = omega (arith, b.slot_is, s1);
+      slot_below = omega (arith, b.slot_is, s2);
+      place_above = omega (arith, b.place_is, p1);
+      place_below = omega (arith, b.place_is, b.slot_is, p2);
+      number_above = omega (arith, b.view_is, v1);
+      number_below = omega (arith, b.view_is, b.place_is, v2);
+      promise = subst IsBallot b.promise_is ok;
+      primary = b.primary;
+      elected = omega (arith, b.place_is, b.elected);
+      members = subst (λ (n : ℕ). IsChain (IsMemberAfter n) None w.members) b.place_is b.members;
+      few_members = b.few_members;
+      ever = b.ever;
+      few_ever = b.few_ever;
+      configs = b.configs;
+      few_configs = b.few_configs;
     }
 
 pub welcome_form : IsForm IsWelcome welcome_bytes next_welcome
@@ -256,7 +275,7 @@ welcome_form = record {
       let g = behind_mode_spelled a.first b.first c.first d.first f.first few f.behind rest x f.then_reads in (
         is_welcome a.first b.first c.first d.first f.first f.behind x rest g a.fits.0 a.fits.1 b.fits.0 b.fits.1 c.fits.0 c.fits.1 d.fits,
         glue _ _ _ _ _ a.parts (glue _ _ _ _ _ b.parts (glue _ _ _ _ _ c.parts (glue _ _ _ _ _ d.parts (glue _ _ _ _ _ f.parts g.parts))))
-        ∙ ap (λ xs. xs ++ rest) (same_numbers a.first b.first c.first d.first f.first x g.slot_is g.place_is g.view_is g.promise_is g.mode_is),
+            ∙ ap (λ xs. xs ++ rest) (same_numbers a.first b.first c.first d.first f.first x g.slot_is g.place_is g.view_is g.promise_is g.mode_is),
       ));
 }
   where

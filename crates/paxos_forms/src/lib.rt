@@ -10,6 +10,8 @@ mod laws;
 mod members;
 mod message;
 mod recovery;
+#[cfg(test)]
+mod tests;
 mod welcome;
 mod welcomes;
 mod wires;

@@ -207,7 +207,10 @@ chain_with (p ∷ ps) before o w h i f = by_order (inc_lt p.origin o) refl (λ k
         let above : inc_lt o p.origin ≡ true = else_above p.origin o low e in
         let next : IsOpenAfter (Some x) p = record {
           origin = (is_inc before p.origin h.0.origin, subst (λ (j : Inc). inc_lt j p.origin ≡ true) (sym g.origin) above);
-          held_above = h.0.held_above; held_below = h.0.held_below; count_below = h.0.count_below; bytes = h.0.bytes;
+          held_above = h.0.held_above;
+          held_below = h.0.held_below;
+          count_below = h.0.count_below;
+          bytes = h.0.bytes;
         } in
         (opens before o x i g, (next, h.1))
 

@@ -78,7 +78,7 @@ impl Parts {
     /// A copy of the open parts, as a donor gives them. Linear in their bytes.
     pub fn copy_open(&self, alloc: Global) -> Result<Sequence<OpenParts>, Memory>
         ensures parts { IfOk result (λ parts. parts ≡ self.now) }
-        ensures ascend { IsChain IsOpenAfter None self.now }
+        ensures ascend { IfOk result (λ parts. IsChain IsOpenAfter None parts) }
     {
         Ok(Sequence::from_vec(copied(alloc, &self.by_origin)?))
     }

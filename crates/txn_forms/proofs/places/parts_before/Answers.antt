@@ -1,5 +1,4 @@
 use Rattle.std.proofs.Common.{◌+◌, ◌-◌, ◌/◌, ◌<◌, None, length, sym, arith}
-
 use Rattle.txn_forms.proofs.OpenPlaces.{within-parts_before, place_le, place_gt}
 use Rattle.txn_forms.proofs.places.parts_before.Goals as goal
 
