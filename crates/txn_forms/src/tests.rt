@@ -128,7 +128,7 @@ enum Outcome {
 }
 
 // What a part became, where a whole body has to be this one.
-fn outcome(joined: &Joined, whole: &[u8]) -> Option<Outcome> {
+fn outcome_of(joined: &Joined, whole: &[u8]) -> Option<Outcome> {
     match joined {
         Joined::Open => Some(Outcome::Open),
         Joined::Void => Some(Outcome::Void),
@@ -201,7 +201,7 @@ fn parts_join_to_a_large_transaction(rt: HostRuntime) -> Result<(), Fail> {
     for (server, index, count, bytes, expected, open) in rows.iter() {
         let part = part(rt.alloc(), *index, *count, bytes)?;
         let joined = parts.take(rt.alloc(), inc(*server), part)?;
-        assert_eq!(rt; outcome(&joined, &whole), Some(*expected));
+        assert_eq!(rt; outcome_of(&joined, &whole), Some(*expected));
         assert_eq!(rt; parts.unfinished().len(), *open);
     }
     Ok(())
@@ -214,13 +214,13 @@ fn open_parts_are_taken_up_again(rt: HostRuntime) -> Result<(), Fail> {
     let (first, rest) = whole.split_at(65_523);
     let mut parts = Parts::new(rt.alloc());
     let joined = parts.take(rt.alloc(), inc(1), part(rt.alloc(), 1, 2, first)?)?;
-    assert_eq!(rt; outcome(&joined, &whole), Some(Outcome::Open));
+    assert_eq!(rt; outcome_of(&joined, &whole), Some(Outcome::Open));
     let copy = parts.copy_open(rt.alloc())?;
     parts.left(inc(1));
     assert_eq!(rt; parts.unfinished().len(), 0);
     let mut again = Parts::resume(copy);
     let joined = again.take(rt.alloc(), inc(1), part(rt.alloc(), 2, 2, rest)?)?;
-    assert_eq!(rt; outcome(&joined, &whole), Some(Outcome::Whole));
+    assert_eq!(rt; outcome_of(&joined, &whole), Some(Outcome::Whole));
     assert_eq!(rt; again.unfinished().len(), 0);
     Ok(())
 }
