@@ -193,6 +193,7 @@ fn open_parts_have_their_length(rt: HostRuntime) -> Result<(), Fail> {
             .to_vec(rt.alloc())?;
     assert_eq!(rt; bytes.len(), 68);
     bytes.resize(65_591, b'x')?;
+    assert_eq!(rt; bytes.len(), 65_591);
     is_read_back(&rt, rt.alloc(), &bytes)?;
     is_refused_with_more(&rt, rt.alloc(), &bytes)?;
     let cut = MessageFault::BadMessage { at: 65_590 };
