@@ -177,6 +177,7 @@ fn parts_join_to_a_large_transaction(rt: HostRuntime) -> Result<(), Fail> {
     let whole = large_body(rt.alloc())?;
     assert_eq!(rt; whole.len(), 80_040);
     let (first, rest) = whole.split_at(65_523);
+    assert_eq!(rt; rest.len(), 14_517);
     let rows = [
         (1, 1, 2, first, Outcome::Open, 1),
         (2, 1, 3, first, Outcome::Open, 2),
