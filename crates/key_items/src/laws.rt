@@ -10,5 +10,4 @@ ghost use Rattle.key_items.specs.Spelling.{AreBytes, IsItemAfter, item_bytes, ne
 pub fn bytes_of_items()
     ensures reads { (before : Option Item) → IsRead (λ i. IsItemAfter before i × AreBytes i) item_bytes (next_item_after before) }
     ensures spells { (before : Option Item) → IsSpelled (IsItemAfter before) item_bytes (next_item_after before) }
-{
-}
+{}

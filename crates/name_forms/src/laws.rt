@@ -15,5 +15,4 @@ pub fn bytes_of_names()
     ensures ballots { IsForm IsBallot ballot_bytes next_ballot }
     ensures ids { IsForm IsId id_bytes next_id }
     ensures gtids { IsForm IsGtid gtid_bytes next_gtid }
-{
-}
+{}

@@ -13,5 +13,4 @@ pub fn bytes_of_values()
     ensures joiners { (before : Option Inc) → IsForm (IsJoinerAfter before) joiner_bytes (next_joiner_after before) }
     ensures values { IsForm IsValue value_bytes next_value }
     ensures votes { (before : Option Vote) → IsForm (IsVoteAfter before) vote_bytes (next_vote_after before) }
-{
-}
+{}

@@ -29,5 +29,4 @@ fn item_fits(item: &Item)
 #[inline]
 fn bytes_fit(bytes: &[u8])
     ensures { are_bytes bytes.now ≡ true }
-{
-}
+{}
