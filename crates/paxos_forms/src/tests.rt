@@ -183,7 +183,7 @@ fn alive_is_spelled_as_worked(rt: HostRuntime) -> Result<(), Fail> {
     Ok(())
 }
 
-// A Give with one open part of 3, of 65,523 bytes; then its count is one less.
+// A Give with one open part of 3, of 65,523 bytes; then with a count one less, and without its last byte.
 #[test]
 fn open_parts_have_their_length(rt: HostRuntime) -> Result<(), Fail> {
     let mut bytes =
@@ -196,10 +196,12 @@ fn open_parts_have_their_length(rt: HostRuntime) -> Result<(), Fail> {
     assert_eq!(rt; bytes.len(), 65_591);
     is_read_back(&rt, rt.alloc(), &bytes)?;
     is_refused_with_more(&rt, rt.alloc(), &bytes)?;
-    let cut = MessageFault::BadMessage { at: 65_590 };
-    assert_eq!(rt; decode(rt.alloc(), &bytes[..65_590]).err(), Some(cut));
     bytes[67] = 0xf2;
     let less = MessageFault::BadMessage { at: 67 };
     assert_eq!(rt; decode(rt.alloc(), &bytes).err(), Some(less));
+    bytes[67] = 0xf3;
+    bytes.truncate(65_590);
+    let cut = MessageFault::BadMessage { at: 65_590 };
+    assert_eq!(rt; decode(rt.alloc(), &bytes).err(), Some(cut));
     Ok(())
 }
