@@ -1,0 +1,1 @@
+// How decided values spread.
