@@ -1,15 +1,14 @@
 // The rows Prepare and Accept: a node promises and votes.
-ghost use Rattle.std.specs.Prelude.{◌≡◌, ◌++◌, ◌∷◌, [], ◌&&◌, not, if◌then◌else◌, OnOk, IfOk, is_some, option_map, Some, None};
-ghost use Rattle.gr_ids.specs.Names.{has_inc};
+ghost use Rattle.std.specs.Prelude.{◌≡◌, ◌++◌, OnOk};
 ghost use Rattle.gr_ids.specs.declared.memory.Memory.{Memory};
-ghost use Rattle.node_rules.specs.Known.{ever_by, members_by};
-ghost use Rattle.node_rules.specs.Voting.{gone_to, hear_accept, hear_prepare, still_leads};
+ghost use Rattle.node_rules.specs.Voting.{gone_to, hear_accept, hear_prepare};
 
+use crate::leading::stop_below;
 use crate::node::Node;
+use crate::turns::{is_member, was_member};
 use gr_ids::{Ballot, Inc, Memory};
 use paxos_forms::{Message, Wire};
-use paxos_leader::{Leader, has_inc};
-use slot_values::{Turns, Value};
+use slot_values::Value;
 use std::alloc::Global;
 
 impl Node {
@@ -88,46 +87,5 @@ impl Node {
             wire: Wire::Gone,
         })?;
         Ok(())
-    }
-}
-
-/// Whether the incarnation is a member by the entries taken.
-pub(crate) fn is_member(turns: &Option<Turns>, inc: Inc) -> bool
-    ensures { result ≡ has_inc (members_by (option_map (λ w. w.turns) turns.now)) inc }
-{
-    match turns {
-        Some(turns) => has_inc(turns.members(), inc),
-        None => false,
-    }
-}
-
-// Whether the incarnation ever was one.
-fn was_member(alloc: Global, turns: &Option<Turns>, inc: Inc) -> Result<bool, Memory>
-    ensures { IfOk result (λ was. was ≡ has_inc (ever_by (option_map (λ w. w.turns) turns.now)) inc) }
-{
-    match turns {
-        Some(turns) => {
-            let at = turns.at(alloc)?;
-            Ok(has_inc(at.ever.as_slice(), inc))
-        }
-        None => Ok(false),
-    }
-}
-
-/// A node that meets a ballot above its own leading ballot stops leading.
-pub(crate) fn stop_below(leader: &mut Option<Leader>, ballot: Ballot)
-    ensures { leader.new ≡ still_leads ballot leader.old }
-{
-    if leads_below(leader, ballot) {
-        *leader = None;
-    }
-}
-
-fn leads_below(leader: &Option<Leader>, ballot: Ballot) -> bool
-    ensures { result ≡ not (is_some (still_leads ballot leader.now)) && is_some leader.now }
-{
-    match leader {
-        Some(leader) => leader.ballot() < ballot,
-        None => false,
     }
 }
