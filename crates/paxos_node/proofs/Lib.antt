@@ -6,3 +6,4 @@ pub mod Proposes
 pub mod Takes
 pub mod Again
 pub mod Begins
+pub mod Sends
