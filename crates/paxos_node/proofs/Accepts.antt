@@ -1,6 +1,6 @@
 -- An acceptance, step by step.
 use Rattle.std.proofs.Common.{◌≡◌, ℕ, Bool, true, false, List, [], ◌∷◌, Option, Some, None, eqb, refl, sym, ap, ◌∙◌}
-use Rattle.std.specs.Prelude.{not, option_map, ◌&&◌, ◌==◌, if◌then◌else◌, nat_lt}
+use Rattle.std.specs.Prelude.{option_map, nat_lt}
 use Rattle.std.proofs.lemmas.Bool.{eqb-true, eq-eqb}
 use Rattle.gr_ids.specs.declared.names.Inc.{Inc}
 use Rattle.gr_ids.specs.declared.names.Ballot.{Ballot}
@@ -8,10 +8,10 @@ use Rattle.gr_ids.specs.Names.{ballot_eq}
 use Rattle.slot_values.specs.declared.value.Value.{Value}
 use Rattle.slot_values.specs.declared.value.Vote.{Vote}
 use Rattle.node_rules.specs.Slots.{at_slot, put_slot}
-use Rattle.node_rules.specs.Learner.{Learner, is_decided}
+use Rattle.node_rules.specs.Learner.{is_decided}
 use Rattle.node_rules.specs.Learning.{counts, hear_accepted, lead_accepted, settles}
 use Rattle.node_rules.specs.Leader.{Leader, Proposal, accepted_by, count_accepted, has_majority, proposal_at}
-use Rattle.node_rules.specs.Node.{Node, Effect, quiet}
+use Rattle.node_rules.specs.Node.{Node, quiet}
 use Rattle.paxos_leader.specs.Counting.{counted, decides}
 use Rattle.paxos_node.specs.Leading.{counting, leads_at, own_vote, settling}
 use Rattle.paxos_node.specs.Left.{settled}

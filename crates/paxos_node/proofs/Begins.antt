@@ -1,16 +1,16 @@
 -- How a joiner begins with a Welcome.
-use Rattle.std.proofs.Common.{◌≡◌, ℕ, zero, suc, ◌+◌, ◌-◌, ◌≤◌, Bool, true, false, List, [], ◌∷◌, ◌++◌, Option, Some, None, eqb, refl, sym, ap, ◌∙◌, arith, length}
+use Rattle.std.proofs.Common.{◌≡◌, ℕ, ◌-◌, Bool, true, false, List, [], ◌∷◌, Some, eqb, refl, sym, ap, ◌∙◌, arith, length}
 use Rattle.std.specs.Prelude.{map, slice_get, ◌&&◌, not, is_some, if◌then◌else◌}
-use Rattle.std.specs.List.{list_all, list_any}
+use Rattle.std.specs.List.{list_any}
 use Rattle.std.proofs.lemmas.Bool.{eqb-true}
 use Rattle.gr_ids.specs.declared.names.Inc.{Inc}
-use Rattle.gr_ids.specs.Names.{inc_eq, has_inc}
+use Rattle.gr_ids.specs.Names.{inc_eq}
 use Rattle.slot_values.specs.Log.{incs}
 use Rattle.node_rules.specs.Names.{Welcome, WelcomeMember}
 use Rattle.node_rules.specs.Lists.{incs_eq}
 use Rattle.node_rules.specs.Node.{Node, quiet}
 use Rattle.paxos_node.proofs.Lists.{last_is}
-use Rattle.node_rules.specs.Welcoming.{fits_primary, hear_welcome, incs_in, is_config, is_for, is_in_order, is_recovering, last_config, told_in, welcomed}
+use Rattle.node_rules.specs.Welcoming.{hear_welcome, incs_in, is_for, is_in_order, is_recovering, last_config, told_in, welcomed}
 
 inc_same : (i j : Inc) → inc_eq i j ≡ true → i ≡ j
 inc_same i j h = go (eqb i.server j.server) (eqb i.start j.start) refl refl

@@ -7,3 +7,4 @@ pub mod Takes
 pub mod Again
 pub mod Begins
 pub mod Sends
+pub mod Ranges

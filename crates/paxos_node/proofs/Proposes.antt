@@ -1,19 +1,19 @@
 -- A proposal, step by step.
-use Rattle.std.proofs.Common.{◌≡◌, ℕ, zero, suc, ◌+◌, ◌≤◌, ◌^◌, Bool, true, false, List, [], ◌∷◌, ◌++◌, Option, Some, None, refl, sym, ap, ◌∙◌, arith}
-use Rattle.std.specs.Prelude.{not, option_map, is_some, fold, drop, nat_le, ◌&&◌, ◌||◌, ◌==◌, if◌then◌else◌}
+use Rattle.std.proofs.Common.{◌≡◌, ℕ, zero, suc, ◌≤◌, ◌^◌, Bool, true, false, List, [], ◌∷◌, Option, Some, None, refl, sym, ap, ◌∙◌, arith}
+use Rattle.std.specs.Prelude.{option_map, is_some, nat_le, ◌&&◌, ◌||◌, ◌==◌}
 use Rattle.std.proofs.lemmas.Bool.Decides.{nat_tests}
 use Rattle.gr_ids.specs.declared.names.Inc.{Inc}
 use Rattle.gr_ids.specs.declared.names.Ballot.{Ballot}
-use Rattle.gr_ids.specs.Names.{ballot_eq, has_inc}
+use Rattle.gr_ids.specs.Names.{ballot_eq}
 use Rattle.slot_values.specs.declared.value.Value.{Value}
 use Rattle.slot_values.specs.declared.value.Vote.{Vote}
 use Rattle.slot_values.specs.Log.{Turns, majority}
 use Rattle.node_rules.specs.Slots.{at_slot, put_slot}
-use Rattle.node_rules.specs.Known.{config_by, config_here, last_by}
+use Rattle.node_rules.specs.Known.{config_by, config_here}
 use Rattle.node_rules.specs.Learner.{Learner, is_decided}
-use Rattle.node_rules.specs.Leader.{Leader, Choice, Proposal, best, choice, choice_at, choice_by, first_offer, free_slot, has_promise, keep_promise, may_propose, noop, proposal_at, proposing, reported_above, take_offer}
+use Rattle.node_rules.specs.Leader.{Leader, Choice, Proposal, best, choice, choice_at, choice_by, first_offer, free_slot, has_promise, keep_promise, may_propose, noop, proposing, reported_above}
 use Rattle.node_rules.specs.Node.{Node, Effect, quiet, sends, also}
-use Rattle.node_rules.specs.Proposing.{decided_above, hear_promise, lead_offers, lead_promise, offers, offers_out, propose_all, propose_choice, propose_one, propose_times, hear_offer, lead_offer}
+use Rattle.node_rules.specs.Proposing.{decided_above, hear_promise, offers, offers_out, propose_all, propose_one, propose_times}
 use Rattle.paxos_leader.specs.Choosing.{with_choice}
 use Rattle.paxos_node.specs.Leading.{choice_in, choosing, leads_at, offering, own_vote}
 use Rattle.paxos_node.specs.Left.{casts}

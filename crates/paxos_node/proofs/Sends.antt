@@ -5,9 +5,9 @@ use Rattle.gr_ids.specs.declared.names.Inc.{Inc}
 use Rattle.slot_values.specs.declared.value.Value.{Value}
 use Rattle.node_rules.specs.Names.{Message, Learn, Greet, Welcome}
 use Rattle.node_rules.specs.Slots.{Entry}
-use Rattle.node_rules.specs.Node.{Node, Effect, quiet}
+use Rattle.node_rules.specs.Node.{Node}
 use Rattle.node_rules.specs.Learning.{hear_learn}
-use Rattle.node_rules.specs.Welcoming.{hear_welcome, is_for, is_in_order, welcomed}
+use Rattle.node_rules.specs.Welcoming.{hear_welcome, is_for, is_in_order}
 use Rattle.node_rules.specs.Step.{hear}
 use Rattle.paxos_votes.specs.Entries.{entry_in}
 use Rattle.paxos_votes.specs.declared.learner.KnownSlot.{KnownSlot}

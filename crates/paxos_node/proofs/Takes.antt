@@ -1,7 +1,7 @@
 -- Taking a slot, and forgetting.
-use Rattle.std.proofs.Common.{◌≡◌, ℕ, zero, suc, ◌+◌, ◌-◌, ◌≤◌, ◌<◌, ◌^◌, Bool, true, false, List, [], ◌∷◌, ◌++◌, Option, Some, None, drop, refl, sym, ap, ◌∙◌, arith, length}
-use Rattle.std.specs.Prelude.{not, option_map, option_to_list, filter, map, min, max, nat_lt, fold, if◌then◌else◌, ⊤}
-use Rattle.std.proofs.lemmas.Bool.{ltb-true, ltb-false, lt-ltb, le-ltb}
+use Rattle.std.proofs.Common.{◌≡◌, ℕ, ◌+◌, ◌≤◌, Bool, true, false, List, [], ◌∷◌, ◌++◌, Option, Some, None, refl, ap, ◌∙◌, arith}
+use Rattle.std.specs.Prelude.{option_map, filter, map, min, nat_lt, ⊤}
+use Rattle.std.proofs.lemmas.Bool.{le-ltb}
 use Rattle.gr_ids.specs.declared.names.Inc.{Inc}
 use Rattle.gr_ids.specs.Names.{inc_eq, has_inc}
 use Rattle.slot_values.specs.declared.value.Value.{Value}
@@ -14,7 +14,7 @@ use Rattle.node_rules.specs.Taking.{take_next}
 use Rattle.node_rules.specs.Slots.{Entry}
 use Rattle.node_rules.specs.Learner.{Learner, decided_at, forget_decided, is_decided, learn, next_entry}
 use Rattle.node_rules.specs.Leader.{Leader, forget_proposals}
-use Rattle.paxos_node.specs.Parts.{AllKept, FitsLog, HasRoom, IsAfter, KnowsLog, log_of}
+use Rattle.paxos_node.specs.Parts.{FitsLog, IsAfter, log_of}
 use Rattle.paxos_node.proofs.Accepts.{found_slot}
 
 -- ---- the next slot

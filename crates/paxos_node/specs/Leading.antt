@@ -1,5 +1,5 @@
 -- What the rows of a leader do to a node's leader, where it has one.
-use Rattle.std.specs.Prelude.{ℕ, Bool, false, ◌&&◌, Option, Some, None, List, fold, option_map}
+use Rattle.std.specs.Prelude.{ℕ, Bool, false, Option, Some, None, List, fold, option_map}
 use Rattle.gr_ids.specs.declared.names.Inc.{Inc}
 use Rattle.gr_ids.specs.declared.names.Ballot.{Ballot}
 use Rattle.gr_ids.specs.Names.{ballot_eq}

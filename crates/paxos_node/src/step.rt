@@ -2,8 +2,7 @@
 ghost use Rattle.std.specs.Prelude.{◌≡◌, ◌++◌, IfOk, OnOk};
 ghost use Rattle.gr_ids.specs.declared.memory.Memory.{Memory};
 ghost use Rattle.node_rules.specs.Step.{hear, node_step, row};
-ghost use Rattle.paxos_forms.specs.Messages.{IsWire};
-ghost use Rattle.paxos_node.specs.Events.{InRange};
+ghost use Rattle.paxos_node.specs.Events.{IsInRange, MayHappen};
 
 use crate::node::Node;
 use gr_ids::{Inc, Memory};
@@ -18,7 +17,7 @@ impl Node {
     /// proposals and own values that wait, and the bytes that are sent.
     #[tactic(auto, unfolding(node_rules::specs::Step::node_step))]
     pub fn step(&mut self, alloc: Global, event: &PaxosEvent) -> Result<Vec<Message>, Memory>
-        requires { InRange event.now }
+        requires { MayHappen event.now }
         ensures node { OnOk result (self.new ≡ (node_step event.now self.old).node) }
         ensures sent { IfOk result (λ sent. sent.items ≡ (node_step event.now self.old).sent) }
     {
@@ -34,7 +33,7 @@ impl Node {
         sent: &mut Vec<Message>,
         event: &PaxosEvent,
     ) -> Result<(), Memory>
-        requires { InRange event.now }
+        requires { MayHappen event.now }
         ensures node { OnOk result (self.new ≡ (row event.now self.old).node) }
         ensures sent { OnOk result (sent.new.items ≡ sent.old.items ++ (row event.now self.old).sent) }
     {
@@ -56,7 +55,7 @@ impl Node {
         from: Inc,
         wire: &Wire,
     ) -> Result<(), Memory>
-        requires { IsWire wire.now }
+        requires { IsInRange wire.now }
         ensures node { OnOk result (self.new ≡ (hear from wire.now self.old).node) }
         ensures sent { OnOk result (sent.new.items ≡ sent.old.items ++ (hear from wire.now self.old).sent) }
     {

@@ -1,5 +1,5 @@
 -- One more is raised.
-use Rattle.std.proofs.Common.{◌≡◌, ◌+◌, suc, arith, refl}
+use Rattle.std.proofs.Common.{◌≡◌, ◌+◌, suc, arith}
 use Rattle.std.specs.Prelude.{map, max, if◌then◌else◌}
 use Rattle.std.proofs.lemmas.List.{length-map}
 use Rattle.gr_ids.specs.Names.{inc_eq}

@@ -1,11 +1,7 @@
 -- What was counted decides the slot, or nothing.
-use Rattle.std.proofs.Common.{◌≡◌, ◌++◌, true, false, Option, Some, None, append-nil, sym, ap, ◌∙◌}
-use Rattle.std.specs.Prelude.{option_map}
-use Rattle.slot_values.specs.declared.value.Vote.{Vote}
-use Rattle.node_rules.specs.Learning.{hear_accepted}
-use Rattle.node_rules.specs.Node.{Node, Effect}
+use Rattle.std.proofs.Common.{◌≡◌, true, Some, None, append-nil, sym, ap, ◌∙◌}
+use Rattle.node_rules.specs.Node.{Effect}
 use Rattle.paxos_node.specs.Leading.{leads_at, own_vote, settling}
-use Rattle.paxos_node.specs.Left.{settled}
 use Rattle.paxos_node.specs.Parts.{log_of}
 use Rattle.paxos_node.specs.contracts.node.Node.{the_view}
 use Rattle.paxos_node.proofs.Accepts.{accepted_is}

@@ -1,5 +1,5 @@
 -- Once there is nothing to propose, there is nothing more.
-use Rattle.std.proofs.Common.{◌≡◌, ℕ, suc, ◌-◌, ◌++◌, append-nil, append_assoc, sym, ap, ◌∙◌, arith}
+use Rattle.std.proofs.Common.{suc, ◌-◌, ◌++◌, append-nil, append_assoc, sym, ap, ◌∙◌, arith}
 use Rattle.node_rules.specs.Node.{Node, Effect}
 use Rattle.node_rules.specs.Proposing.{propose_times}
 use Rattle.paxos_node.proofs.Proposes.{times_quiet}

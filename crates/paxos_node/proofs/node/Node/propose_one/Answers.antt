@@ -1,9 +1,6 @@
 -- The proposal is the choice of the proposing rule, or there is none.
-use Rattle.std.proofs.Common.{◌≡◌, ℕ, ◌++◌, Option, Some, None, append-nil, sym, ap, ◌∙◌}
-use Rattle.std.specs.Prelude.{option_map}
-use Rattle.node_rules.specs.Leader.{Choice, Leader}
-use Rattle.node_rules.specs.Node.{Node, Effect}
-use Rattle.paxos_node.specs.Leading.{choice_in, own_vote}
+use Rattle.std.proofs.Common.{◌≡◌, Some, None, append-nil, sym, ap, ◌∙◌}
+use Rattle.node_rules.specs.Node.{Effect}
 use Rattle.paxos_node.specs.Parts.{log_of}
 use Rattle.paxos_node.specs.contracts.node.Node.{the_view}
 use Rattle.paxos_node.proofs.Proposes.{chosen_is, unchosen, unchosen_leader}

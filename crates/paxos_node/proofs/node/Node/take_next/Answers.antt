@@ -1,6 +1,5 @@
 -- The next slot, as it was found.
 use Rattle.std.proofs.Common.{◌≡◌, Option, Some, sym, ap, ◌∙◌}
-use Rattle.std.specs.Prelude.{option_map}
 use Rattle.node_rules.specs.Learner.{next_entry}
 use Rattle.node_rules.specs.Node.{Node}
 use Rattle.node_rules.specs.Slots.{Entry}
