@@ -2,10 +2,10 @@ ghost use Rattle.std.specs.Prelude.{◌≡◌, true};
 ghost use Rattle.paxos_node.specs.Events.{IsInRange, MayHappen};
 
 use crate::Node;
-use gr_ids::{Ballot, Blob, Inc, Memory, Pos, Sequence, ValueId};
+use gr_ids::{Ballot, Blob, Inc, MemberState, Memory, Mode, Pos, Sequence, ValueId};
 use node_rules::{PaxosEvent, Taken};
-use paxos_forms::{Message, Wire};
-use slot_values::{Kept, Value, What};
+use paxos_forms::{Message, Welcome, WelcomeMember, Wire};
+use slot_values::{Joiner, Kept, Value, What};
 use std::alloc::Global;
 use std::mem;
 use std::test::Fail;
@@ -22,6 +22,11 @@ const B: Inc = Inc {
 
 const C: Inc = Inc {
     server: 3,
+    start: 1,
+};
+
+const D: Inc = Inc {
+    server: 4,
     start: 1,
 };
 
@@ -291,5 +296,195 @@ fn who_was_removed_is_told_so(rt: HostRuntime) -> Result<(), Fail> {
     assert_eq!(rt; sent.as_slice(), [(3, GONE)].as_slice());
     let node = net.node(A)?;
     assert_eq!(rt; (node.next(), node.promised()), (2, Some(ballot(1, A))));
+    Ok(())
+}
+
+// The kinds of what the node sends when it hears this.
+fn answer(alloc: Global, node: &mut Node, from: Inc, wire: Wire) -> Result<Vec<u8>, Fail> {
+    let event = PaxosEvent::Heard(Message { from, to: B, wire });
+    if !may_happen(&event) {
+        return Err(Fail::new("out of range"));
+    }
+    let sent = node.step(alloc, &event)?;
+    let mut kinds = Vec::new(alloc);
+    for message in &sent {
+        kinds.push(kind(&message.wire))?;
+    }
+    Ok(kinds)
+}
+
+// Each row: the sender, what it says, how many messages answer, of which kind, the promise then, and the least
+// undecided slot.
+#[test]
+fn a_node_that_follows_answers_by_its_rows(rt: HostRuntime) -> Result<(), Fail> {
+    let alloc = rt.alloc();
+    let mut node = Node::founder(alloc, B, &[A, B, C], 10)?;
+    assert_eq!(rt; node.turns().members(), [A, B, C].as_slice());
+    let rows = [
+        (
+            C,
+            Wire::Accept(ballot(2, C), 3, body(alloc, C, 1)?),
+            1,
+            ACCEPTED,
+            ballot(2, C),
+            1,
+        ),
+        (
+            A,
+            Wire::Accept(ballot(1, A), 3, body(alloc, A, 1)?),
+            0,
+            0,
+            ballot(2, C),
+            1,
+        ),
+        (A, Wire::Prepare(ballot(1, A), 1), 0, 0, ballot(2, C), 1),
+        (
+            C,
+            Wire::Prepare(ballot(2, C), 1),
+            1,
+            PROMISE,
+            ballot(2, C),
+            1,
+        ),
+        (
+            A,
+            Wire::Prepare(ballot(3, A), 1),
+            1,
+            PROMISE,
+            ballot(3, A),
+            1,
+        ),
+        (
+            C,
+            Wire::Promise(ballot(3, A), 1, Sequence::new(alloc)),
+            0,
+            0,
+            ballot(3, A),
+            1,
+        ),
+        (C, Wire::Accepted(ballot(3, A), 3), 0, 0, ballot(3, A), 1),
+        (A, Wire::Learn(2, body(alloc, A, 2)?), 0, 0, ballot(3, A), 1),
+        (A, Wire::Learn(1, body(alloc, A, 1)?), 0, 0, ballot(3, A), 3),
+        (A, Wire::Learn(1, body(alloc, C, 1)?), 0, 0, ballot(3, A), 3),
+        (C, Wire::Offer(body(alloc, C, 0)?), 0, 0, ballot(3, A), 3),
+        (C, Wire::Offer(body(alloc, C, 2)?), 0, 0, ballot(3, A), 3),
+        (C, Wire::Alive(1), 2, LEARN, ballot(3, A), 3),
+        (C, Wire::Alive(2), 1, LEARN, ballot(3, A), 3),
+        (C, Wire::Alive(3), 0, 0, ballot(3, A), 3),
+        (D, Wire::Alive(1), 0, 0, ballot(3, A), 3),
+        (A, Wire::Gone, 0, 0, ballot(3, A), 3),
+    ];
+    for (from, wire, count, kind, promise, next) in rows {
+        let kinds = answer(alloc, &mut node, from, wire)?;
+        assert_eq!(rt; kinds.len(), count);
+        assert!(rt; kinds.iter().all(|sent| *sent == kind));
+        assert_eq!(rt; (node.promised(), node.next()), (Some(promise), next));
+    }
+    let Some(taken) = node.take(alloc)? else {
+        return Err(Fail::new("nothing taken"));
+    };
+    assert_eq!(rt; (taken.slot, taken.value.id.origin), (1, A));
+    Ok(())
+}
+
+// Each row: the sender, what it says to the leader, how many messages answer, and of which kind.
+#[test]
+fn a_leader_answers_by_its_rows(rt: HostRuntime) -> Result<(), Fail> {
+    let alloc = rt.alloc();
+    let mut node = Node::founder(alloc, A, &[A, B, C], 10)?;
+    let rows = [
+        (C, Wire::Offer(body(alloc, C, 0)?), 0, 0),
+        (C, Wire::Offer(body(alloc, C, 1)?), 2, ACCEPT),
+        (C, Wire::Offer(body(alloc, C, 1)?), 0, 0),
+        (C, Wire::Accepted(ballot(2, A), 1), 0, 0),
+        (C, Wire::Accepted(ballot(1, A), 9), 0, 0),
+        (
+            C,
+            Wire::Promise(ballot(2, A), 1, Sequence::new(alloc)),
+            0,
+            0,
+        ),
+        (C, Wire::Accepted(ballot(1, A), 1), 2, LEARN),
+        (B, Wire::Accepted(ballot(1, A), 1), 0, 0),
+        (C, Wire::Offer(body(alloc, C, 1)?), 2, ACCEPT),
+        (C, Wire::Prepare(ballot(1, B), 1), 1, PROMISE),
+        (C, Wire::Offer(body(alloc, C, 2)?), 0, 0),
+    ];
+    for (from, wire, count, kind) in rows {
+        let kinds = answer(alloc, &mut node, from, wire)?;
+        assert_eq!(rt; kinds.len(), count);
+        assert!(rt; kinds.iter().all(|sent| *sent == kind));
+    }
+    Ok(())
+}
+
+// D was added to A and B in slot 5; so many configurations are told.
+fn welcome(alloc: Global, slot: u64, known: usize) -> Result<Welcome, Memory> {
+    let mut configs = Vec::new(alloc);
+    for _ in 1..known {
+        configs.push(Sequence::from_vec([A, B].to_vec(alloc)?))?;
+    }
+    configs.push(Sequence::from_vec([A, B, D].to_vec(alloc)?))?;
+    let mut members = Vec::new(alloc);
+    for inc in [A, B, D] {
+        members.push(WelcomeMember {
+            joiner: Joiner {
+                inc,
+                uuid: [inc.server; 16],
+                version: [8, 0, 36],
+                weight: 50,
+            },
+            state: if inc == D {
+                MemberState::Recovering
+            } else {
+                MemberState::Online
+            },
+            last: 0,
+        })?;
+    }
+    Ok(Welcome {
+        slot,
+        place: Pos(2),
+        number: 2,
+        promise: ballot(1, A),
+        mode: Mode::Multi,
+        primary: None,
+        elected: Pos(0),
+        members: Sequence::from_vec(members),
+        ever: Sequence::from_vec([A, B, D].to_vec(alloc)?),
+        configs: Sequence::from_vec(configs),
+    })
+}
+
+#[test]
+fn a_joiner_begins_with_its_first_welcome(rt: HostRuntime) -> Result<(), Fail> {
+    let alloc = rt.alloc();
+    let mut node = Node::joiner(alloc, D, 10);
+    assert_eq!(rt;
+        (node.next(), node.promised(), node.config(1).is_none()),
+        (0, None, true)
+    );
+    let rows = [
+        (Wire::Prepare(ballot(5, B), 1), 1, 0),
+        (Wire::Learn(6, body(alloc, A, 1)?), 0, 0),
+        (Wire::Welcome(welcome(alloc, 5, 9)?), 0, 0),
+        (Wire::Welcome(welcome(alloc, 5, 10)?), 0, 7),
+        (Wire::Welcome(welcome(alloc, 8, 10)?), 0, 7),
+    ];
+    for (wire, count, next) in rows {
+        let kinds = answer(alloc, &mut node, B, wire)?;
+        assert_eq!(rt; (kinds.len(), node.next()), (count, next));
+    }
+    assert_eq!(rt;
+        (node.promised(), node.kept_from()),
+        (Some(ballot(5, B)), 6)
+    );
+    for (slot, members) in [(5, 0), (6, 2), (14, 2), (15, 3), (16, 0)] {
+        let known = match node.config(slot) {
+            Some(config) => config.len(),
+            None => 0,
+        };
+        assert_eq!(rt; known, members);
+    }
     Ok(())
 }
