@@ -19,5 +19,3 @@ mod voting;
 mod welcoming;
 
 pub use node::Node;
-pub use sending::Notice;
-pub use told::ToldSlot;

@@ -11,7 +11,7 @@ use std::alloc::Global;
 
 /// What a node tells several members at once.
 #[derive(Debug, Drop)]
-pub enum Notice<'a> {
+pub(crate) enum Notice<'a> {
     Prepare(Ballot, u64),
     Accept(Ballot, u64, &'a Value),
     Learn(u64, &'a Value),

@@ -2,12 +2,11 @@ ghost use Rattle.std.specs.Prelude.{◌≡◌, true};
 ghost use Rattle.paxos_node.specs.Events.{IsInRange, MayHappen};
 
 use crate::Node;
-use gr_ids::{Ballot, Blob, Inc, MemberState, Memory, Mode, Pos, Sequence, ValueId};
-use node_rules::{PaxosEvent, Taken};
+use gr_ids::{Ballot, Inc, MemberState, Memory, Mode, Pos, Sequence, ValueId};
+use node_rules::PaxosEvent;
 use paxos_forms::{Message, Welcome, WelcomeMember, Wire};
 use slot_values::{Joiner, Kept, Value, What};
 use std::alloc::Global;
-use std::mem;
 use std::test::Fail;
 
 const A: Inc = Inc {
@@ -30,98 +29,15 @@ const D: Inc = Inc {
     start: 1,
 };
 
-// Three founders' nodes, and every message that they sent.
-#[derive(Drop)]
-struct Net {
-    nodes: Vec<Node>,
-    wire: Vec<Message>,
+fn ballot(round: u32, inc: Inc) -> Ballot {
+    Ballot { round, inc }
 }
 
-impl Net {
-    fn found(alloc: Global) -> Result<Net, Memory> {
-        let mut nodes = Vec::new(alloc);
-        for me in [A, B, C] {
-            nodes.push(Node::founder(alloc, me, &[A, B, C], 10)?)?;
-        }
-        Ok(Net {
-            nodes,
-            wire: Vec::new(alloc),
-        })
-    }
-
-    fn give(&mut self, alloc: Global, to: Inc, event: &PaxosEvent) -> Result<(), Fail> {
-        if !may_happen(event) {
-            return Err(Fail::new("out of range"));
-        }
-        let at = to.server as usize;
-        let Some(node) = self.nodes.get_mut(at.saturating_sub(1)) else {
-            return Err(Fail::new("no such node"));
-        };
-        for message in node.step(alloc, event)? {
-            self.wire.push(message)?;
-        }
-        Ok(())
-    }
-
-    // The messages of these numbers, from 1, are taken by their addressees, and stay on the wire.
-    fn deliver(&mut self, alloc: Global, numbers: &[usize]) -> Result<(), Fail> {
-        for number in numbers {
-            self.deliver_one(alloc, number.saturating_sub(1))?;
-        }
-        Ok(())
-    }
-
-    fn deliver_one(&mut self, alloc: Global, at: usize) -> Result<(), Fail> {
-        if at >= self.wire.len() {
-            return Err(Fail::new("no such message"));
-        }
-        let nothing = Message {
-            from: A,
-            to: A,
-            wire: Wire::Gone,
-        };
-        let message = mem::replace(&mut self.wire[at], nothing);
-        let to = message.to;
-        let event = PaxosEvent::Heard(message);
-        self.give(alloc, to, &event)?;
-        if let PaxosEvent::Heard(message) = event {
-            if at < self.wire.len() {
-                self.wire[at] = message;
-            }
-        }
-        Ok(())
-    }
-
-    // The node takes all that it can: the slots, and what their values become.
-    fn take(&mut self, alloc: Global, by: Inc) -> Result<Vec<(u64, Kept)>, Fail> {
-        let at = by.server as usize;
-        let Some(node) = self.nodes.get_mut(at.saturating_sub(1)) else {
-            return Err(Fail::new("no such node"));
-        };
-        let mut taken = Vec::new(alloc);
-        for _ in 0..9 {
-            if let Some(Taken { slot, kept, .. }) = node.take(alloc)? {
-                taken.push((slot, kept))?;
-            }
-        }
-        Ok(taken)
-    }
-
-    // The messages after the first ones: the addressee's server, and the kind.
-    fn sent_after(&self, alloc: Global, first: usize) -> Result<Vec<(u8, u8)>, Fail> {
-        let mut sent = Vec::new(alloc);
-        for message in &self.wire[first.min(self.wire.len())..] {
-            sent.push((message.to.server, kind(&message.wire)))?;
-        }
-        Ok(sent)
-    }
-
-    fn node(&self, of: Inc) -> Result<&Node, Fail> {
-        let at = of.server as usize;
-        match self.nodes.get(at.saturating_sub(1)) {
-            Some(node) => Ok(node),
-            None => Err(Fail::new("no such node")),
-        }
+// The value of this number, which removes an incarnation.
+fn value(origin: Inc, number: u64, removed: Inc) -> Value {
+    Value {
+        id: ValueId { origin, number },
+        what: What::Remove(removed),
     }
 }
 
@@ -135,8 +51,6 @@ const ACCEPTED: u8 = 4;
 
 const LEARN: u8 = 5;
 
-const OFFER: u8 = 6;
-
 const ALIVE: u8 = 10;
 
 const GONE: u8 = 11;
@@ -148,28 +62,10 @@ fn kind(wire: &Wire) -> u8 {
         Wire::Accept(_, _, _) => ACCEPT,
         Wire::Accepted(_, _) => ACCEPTED,
         Wire::Learn(_, _) => LEARN,
-        Wire::Offer(_) => OFFER,
-        Wire::Welcome(_) => 7,
-        Wire::Ask(_) => 8,
-        Wire::Give(_) => 9,
         Wire::Alive(_) => ALIVE,
         Wire::Gone => GONE,
+        _ => 0,
     }
-}
-
-fn ballot(round: u32, inc: Inc) -> Ballot {
-    Ballot { round, inc }
-}
-
-fn body(alloc: Global, origin: Inc, number: u64) -> Result<Value, Memory> {
-    Ok(Value {
-        id: ValueId { origin, number },
-        what: What::Body(Blob::of(alloc, b"x")?),
-    })
-}
-
-fn own(alloc: Global, origin: Inc, number: u64) -> Result<PaxosEvent, Memory> {
-    Ok(PaxosEvent::Own(body(alloc, origin, number)?))
 }
 
 fn may_happen(event: &PaxosEvent) -> bool
@@ -192,39 +88,171 @@ fn is_in_range(wire: &Wire) -> bool
     }
 }
 
-// To the new promise of B: an Accept of A's is still on its way to B, and B's promise to C.
-fn promised_anew(alloc: Global) -> Result<Net, Fail> {
+// What happens to the net: an incarnation makes its first value, which removes another; campaigns; has a tick; takes the
+// next slot; or the message of this number, from 1, is taken by its addressee.
+#[derive(Clone, Copy)]
+enum Act {
+    Removes(Inc, Inc),
+    Campaigns(Inc),
+    Ticks(Inc),
+    Takes(Inc),
+    Hears(usize),
+}
+
+// Three founders' nodes, every message that they sent, as it is heard, and what they took.
+#[derive(Drop)]
+struct Net {
+    nodes: Vec<Node>,
+    wire: Vec<PaxosEvent>,
+    taken: Vec<(u64, Kept)>,
+}
+
+impl Net {
+    fn found(alloc: Global) -> Result<Net, Memory> {
+        let mut nodes = Vec::new(alloc);
+        for me in [A, B, C] {
+            nodes.push(Node::founder(alloc, me, &[A, B, C], 10)?)?;
+        }
+        Ok(Net {
+            nodes,
+            wire: Vec::new(alloc),
+            taken: Vec::new(alloc),
+        })
+    }
+
+    fn act(&mut self, alloc: Global, act: Act) -> Result<(), Fail> {
+        match act {
+            Act::Removes(inc, removed) => {
+                self.give(alloc, inc, &PaxosEvent::Own(value(inc, 1, removed)))
+            }
+            Act::Campaigns(inc) => self.give(alloc, inc, &PaxosEvent::Campaign),
+            Act::Ticks(inc) => self.give(alloc, inc, &PaxosEvent::Tick),
+            Act::Takes(inc) => self.take(alloc, inc),
+            Act::Hears(number) => self.deliver(alloc, number.saturating_sub(1)),
+        }
+    }
+
+    fn give(&mut self, alloc: Global, to: Inc, event: &PaxosEvent) -> Result<(), Fail> {
+        if !may_happen(event) {
+            return Err(Fail::new("out of range"));
+        }
+        let at = to.server as usize;
+        let Some(node) = self.nodes.get_mut(at.saturating_sub(1)) else {
+            return Err(Fail::new("no such node"));
+        };
+        for message in node.step(alloc, event)? {
+            self.wire.push(PaxosEvent::Heard(message))?;
+        }
+        Ok(())
+    }
+
+    fn deliver(&mut self, alloc: Global, at: usize) -> Result<(), Fail> {
+        if at >= self.wire.len() {
+            return Err(Fail::new("no such message"));
+        }
+        let event = self.wire.remove(at);
+        self.give(alloc, addressee(&event), &event)?;
+        self.wire.insert(at.min(self.wire.len()), event)?;
+        Ok(())
+    }
+
+    fn take(&mut self, alloc: Global, by: Inc) -> Result<(), Fail> {
+        let at = by.server as usize;
+        let Some(node) = self.nodes.get_mut(at.saturating_sub(1)) else {
+            return Err(Fail::new("no such node"));
+        };
+        if let Some(one) = node.take(alloc)? {
+            self.taken.push((one.slot, one.kept))?;
+        }
+        Ok(())
+    }
+
+    // The messages after the first ones: the addressee's server, and the kind.
+    fn sent_after(&self, alloc: Global, first: usize) -> Result<Vec<(u8, u8)>, Fail> {
+        let mut sent = Vec::new(alloc);
+        for event in &self.wire[first.min(self.wire.len())..] {
+            sent.push((addressee(event).server, kind_of(event)))?;
+        }
+        Ok(sent)
+    }
+
+    // The least undecided slot, the promise, and the first slot that isn't forgotten.
+    fn state(&self, of: Inc) -> (u64, Option<Ballot>, u64) {
+        let at = of.server as usize;
+        match self.nodes.get(at.saturating_sub(1)) {
+            Some(node) => (node.next(), node.promised(), node.kept_from()),
+            None => (0, None, 0),
+        }
+    }
+}
+
+fn addressee(event: &PaxosEvent) -> Inc {
+    match event {
+        PaxosEvent::Heard(message) => message.to,
+        _ => A,
+    }
+}
+
+fn kind_of(event: &PaxosEvent) -> u8 {
+    match event {
+        PaxosEvent::Heard(message) => kind(&message.wire),
+        _ => 0,
+    }
+}
+
+fn after(alloc: Global, acts: &[Act]) -> Result<Net, Fail> {
     let mut net = Net::found(alloc)?;
-    net.give(alloc, B, &own(alloc, B, 1)?)?;
-    net.deliver(alloc, &[1, 3])?;
-    net.give(alloc, C, &PaxosEvent::Campaign)?;
-    net.deliver(alloc, &[6])?;
+    for act in acts {
+        net.act(alloc, *act)?;
+    }
     Ok(net)
 }
 
+// A leader's value is voted for by C alone, and C leads then; the old leader's Accept to B hasn't come when B promises.
 #[test]
 fn one_value_is_chosen_in_two_slots(rt: HostRuntime) -> Result<(), Fail> {
-    let mut net = promised_anew(rt.alloc())?;
-    net.give(rt.alloc(), B, &PaxosEvent::Tick)?;
-    net.deliver(rt.alloc(), &[10, 7, 11, 15, 13, 18])?;
-    let kept = [(1, Kept::At(Pos(1), true)), (2, Kept::Skipped)];
-    let taken = net.take(rt.alloc(), C)?;
-    assert_eq!(rt; taken.as_slice(), kept.as_slice());
-    net.deliver(rt.alloc(), &[16, 19])?;
-    let taken = net.take(rt.alloc(), A)?;
-    assert_eq!(rt; taken.as_slice(), kept.as_slice());
-    let before = net.wire.len();
-    net.deliver(rt.alloc(), &[4, 15])?;
-    assert_eq!(rt; net.wire.len(), before);
-    let node = net.node(A)?;
-    assert_eq!(rt; (node.next(), node.promised()), (3, Some(ballot(2, C))));
+    let acts = [
+        Act::Removes(B, D),
+        Act::Hears(1),
+        Act::Hears(3),
+        Act::Campaigns(C),
+        Act::Hears(6),
+        Act::Ticks(B),
+        Act::Hears(10),
+        Act::Hears(7),
+        Act::Hears(11),
+        Act::Hears(15),
+        Act::Hears(13),
+        Act::Hears(18),
+        Act::Takes(C),
+        Act::Takes(C),
+        Act::Hears(16),
+        Act::Hears(19),
+        Act::Takes(A),
+        Act::Takes(A),
+        Act::Hears(4),
+        Act::Hears(15),
+    ];
+    let net = after(rt.alloc(), &acts)?;
+    let kept = Kept::At(Pos(1), false);
+    let wanted = [(1, kept), (2, Kept::Skipped), (1, kept), (2, Kept::Skipped)];
+    assert_eq!(rt; net.taken.as_slice(), wanted.as_slice());
+    assert_eq!(rt; net.wire.len(), 20);
+    assert_eq!(rt; net.state(A), (3, Some(ballot(2, C)), 1));
     Ok(())
 }
 
 #[test]
 fn an_old_leaders_accept_is_not_voted_for(rt: HostRuntime) -> Result<(), Fail> {
-    let mut net = promised_anew(rt.alloc())?;
-    net.deliver(rt.alloc(), &[2])?;
+    let acts = [
+        Act::Removes(B, D),
+        Act::Hears(1),
+        Act::Hears(3),
+        Act::Campaigns(C),
+        Act::Hears(6),
+        Act::Hears(2),
+    ];
+    let net = after(rt.alloc(), &acts)?;
     let sent = net.sent_after(rt.alloc(), 3)?;
     let wanted = [(1, ACCEPTED), (1, PREPARE), (2, PREPARE), (3, PROMISE)];
     assert_eq!(rt; sent.as_slice(), wanted.as_slice());
@@ -233,75 +261,78 @@ fn an_old_leaders_accept_is_not_voted_for(rt: HostRuntime) -> Result<(), Fail> {
 
 #[test]
 fn a_lost_promise_is_asked_for_again(rt: HostRuntime) -> Result<(), Fail> {
-    let mut net = Net::found(rt.alloc())?;
-    net.give(rt.alloc(), B, &PaxosEvent::Campaign)?;
-    net.deliver(rt.alloc(), &[2])?;
-    net.give(rt.alloc(), B, &PaxosEvent::Tick)?;
+    let acts = [
+        Act::Campaigns(B),
+        Act::Hears(2),
+        Act::Ticks(B),
+        Act::Hears(7),
+        Act::Hears(8),
+        Act::Removes(B, D),
+        Act::Hears(10),
+        Act::Hears(11),
+        Act::Takes(B),
+    ];
+    let net = after(rt.alloc(), &acts)?;
     let sent = net.sent_after(rt.alloc(), 3)?;
-    let wanted = [(1, ALIVE), (3, ALIVE), (1, PREPARE), (3, PREPARE)];
-    assert_eq!(rt; sent.as_slice(), wanted.as_slice());
-    net.deliver(rt.alloc(), &[7, 8])?;
-    net.give(rt.alloc(), B, &own(rt.alloc(), B, 1)?)?;
-    net.deliver(rt.alloc(), &[10, 11])?;
-    let taken = net.take(rt.alloc(), B)?;
-    assert_eq!(rt; taken.as_slice(), [(1, Kept::At(Pos(1), true))].as_slice());
+    let again = [(1, ALIVE), (3, ALIVE), (1, PREPARE), (3, PREPARE)];
+    assert!(rt; sent.as_slice().starts_with(again.as_slice()));
+    assert_eq!(rt;
+        net.taken.as_slice(),
+        [(1, Kept::At(Pos(1), false))].as_slice()
+    );
     Ok(())
 }
 
 #[test]
 fn slots_that_all_have_told_are_forgotten(rt: HostRuntime) -> Result<(), Fail> {
-    let mut net = Net::found(rt.alloc())?;
-    net.give(rt.alloc(), A, &own(rt.alloc(), A, 1)?)?;
-    net.deliver(rt.alloc(), &[1, 2, 3, 4, 5, 6])?;
-    for inc in [A, B, C] {
-        let taken = net.take(rt.alloc(), inc)?;
-        assert_eq!(rt; taken.len(), 1);
-        net.give(rt.alloc(), inc, &PaxosEvent::Tick)?;
-    }
-    for (number, low) in [(9, 1), (11, 2)] {
-        net.deliver(rt.alloc(), &[number])?;
-        assert_eq!(rt; net.node(A)?.kept_from(), low);
-    }
-    let node = net.node(A)?;
-    let known = [1, 2, 11, 12]
-        .iter()
-        .map(|slot| node.config(*slot).is_some());
-    let known: Vec<bool> = known.collect(rt.alloc())?;
-    assert_eq!(rt; known.as_slice(), [false, true, true, false].as_slice());
+    let acts = [
+        Act::Removes(A, D),
+        Act::Hears(1),
+        Act::Hears(2),
+        Act::Hears(3),
+        Act::Hears(5),
+        Act::Hears(6),
+        Act::Takes(A),
+        Act::Takes(B),
+        Act::Takes(C),
+        Act::Ticks(A),
+        Act::Ticks(B),
+        Act::Ticks(C),
+        Act::Hears(9),
+    ];
+    let mut net = after(rt.alloc(), &acts)?;
+    assert_eq!(rt; net.state(A), (2, Some(ballot(1, A)), 1));
+    net.act(rt.alloc(), Act::Hears(11))?;
+    assert_eq!(rt; net.state(A), (2, Some(ballot(1, A)), 2));
     Ok(())
 }
 
 #[test]
 fn who_was_removed_is_told_so(rt: HostRuntime) -> Result<(), Fail> {
-    let mut net = Net::found(rt.alloc())?;
-    let remove = Value {
-        id: ValueId {
-            origin: C,
-            number: 1,
-        },
-        what: What::Remove(C),
-    };
-    net.give(rt.alloc(), C, &PaxosEvent::Own(remove))?;
-    net.deliver(rt.alloc(), &[1, 2, 4, 5])?;
-    for inc in [A, B] {
-        assert!(rt; net.node(inc)?.learnt_remove(C));
-        let taken = net.take(rt.alloc(), inc)?;
-        assert_eq!(rt; taken.as_slice(), [(1, Kept::At(Pos(1), true))].as_slice());
-    }
-    net.give(rt.alloc(), B, &PaxosEvent::Tick)?;
-    net.deliver(rt.alloc(), &[7])?;
-    net.give(rt.alloc(), C, &PaxosEvent::Campaign)?;
-    net.deliver(rt.alloc(), &[8])?;
+    let acts = [
+        Act::Removes(C, C),
+        Act::Hears(1),
+        Act::Hears(2),
+        Act::Hears(4),
+        Act::Hears(5),
+        Act::Takes(A),
+        Act::Takes(B),
+        Act::Ticks(B),
+        Act::Hears(7),
+        Act::Campaigns(C),
+        Act::Hears(8),
+    ];
+    let net = after(rt.alloc(), &acts)?;
     let sent = net.sent_after(rt.alloc(), 9)?;
     assert_eq!(rt; sent.as_slice(), [(3, GONE)].as_slice());
-    let node = net.node(A)?;
-    assert_eq!(rt; (node.next(), node.promised()), (2, Some(ballot(1, A))));
+    assert_eq!(rt; net.state(A), (2, Some(ballot(1, A)), 2));
     Ok(())
 }
 
 // The kinds of what the node sends when it hears this.
 fn answer(alloc: Global, node: &mut Node, from: Inc, wire: Wire) -> Result<Vec<u8>, Fail> {
-    let event = PaxosEvent::Heard(Message { from, to: B, wire });
+    let to = B;
+    let event = PaxosEvent::Heard(Message { from, to, wire });
     if !may_happen(&event) {
         return Err(Fail::new("out of range"));
     }
@@ -319,60 +350,40 @@ fn answer(alloc: Global, node: &mut Node, from: Inc, wire: Wire) -> Result<Vec<u
 fn a_node_that_follows_answers_by_its_rows(rt: HostRuntime) -> Result<(), Fail> {
     let alloc = rt.alloc();
     let mut node = Node::founder(alloc, B, &[A, B, C], 10)?;
-    assert_eq!(rt; node.turns().members(), [A, B, C].as_slice());
+    let votes = Sequence::new(alloc);
+    let (second, third) = (ballot(2, C), ballot(3, A));
     let rows = [
         (
             C,
-            Wire::Accept(ballot(2, C), 3, body(alloc, C, 1)?),
+            Wire::Accept(second, 3, value(C, 1, D)),
             1,
             ACCEPTED,
-            ballot(2, C),
+            second,
             1,
         ),
         (
             A,
-            Wire::Accept(ballot(1, A), 3, body(alloc, A, 1)?),
+            Wire::Accept(ballot(1, A), 3, value(A, 1, D)),
             0,
             0,
-            ballot(2, C),
+            second,
             1,
         ),
-        (A, Wire::Prepare(ballot(1, A), 1), 0, 0, ballot(2, C), 1),
-        (
-            C,
-            Wire::Prepare(ballot(2, C), 1),
-            1,
-            PROMISE,
-            ballot(2, C),
-            1,
-        ),
-        (
-            A,
-            Wire::Prepare(ballot(3, A), 1),
-            1,
-            PROMISE,
-            ballot(3, A),
-            1,
-        ),
-        (
-            C,
-            Wire::Promise(ballot(3, A), 1, Sequence::new(alloc)),
-            0,
-            0,
-            ballot(3, A),
-            1,
-        ),
-        (C, Wire::Accepted(ballot(3, A), 3), 0, 0, ballot(3, A), 1),
-        (A, Wire::Learn(2, body(alloc, A, 2)?), 0, 0, ballot(3, A), 1),
-        (A, Wire::Learn(1, body(alloc, A, 1)?), 0, 0, ballot(3, A), 3),
-        (A, Wire::Learn(1, body(alloc, C, 1)?), 0, 0, ballot(3, A), 3),
-        (C, Wire::Offer(body(alloc, C, 0)?), 0, 0, ballot(3, A), 3),
-        (C, Wire::Offer(body(alloc, C, 2)?), 0, 0, ballot(3, A), 3),
-        (C, Wire::Alive(1), 2, LEARN, ballot(3, A), 3),
-        (C, Wire::Alive(2), 1, LEARN, ballot(3, A), 3),
-        (C, Wire::Alive(3), 0, 0, ballot(3, A), 3),
-        (D, Wire::Alive(1), 0, 0, ballot(3, A), 3),
-        (A, Wire::Gone, 0, 0, ballot(3, A), 3),
+        (A, Wire::Prepare(ballot(1, A), 1), 0, 0, second, 1),
+        (C, Wire::Prepare(second, 1), 1, PROMISE, second, 1),
+        (A, Wire::Prepare(third, 1), 1, PROMISE, third, 1),
+        (C, Wire::Promise(third, 1, votes), 0, 0, third, 1),
+        (C, Wire::Accepted(third, 3), 0, 0, third, 1),
+        (A, Wire::Learn(2, value(A, 2, D)), 0, 0, third, 1),
+        (A, Wire::Learn(1, value(A, 1, D)), 0, 0, third, 3),
+        (A, Wire::Learn(1, value(C, 1, A)), 0, 0, third, 3),
+        (C, Wire::Offer(value(C, 0, D)), 0, 0, third, 3),
+        (C, Wire::Offer(value(C, 2, D)), 0, 0, third, 3),
+        (C, Wire::Alive(1), 2, LEARN, third, 3),
+        (C, Wire::Alive(2), 1, LEARN, third, 3),
+        (C, Wire::Alive(3), 0, 0, third, 3),
+        (D, Wire::Alive(1), 0, 0, third, 3),
+        (A, Wire::Gone, 0, 0, third, 3),
     ];
     for (from, wire, count, kind, promise, next) in rows {
         let kinds = answer(alloc, &mut node, from, wire)?;
@@ -380,10 +391,7 @@ fn a_node_that_follows_answers_by_its_rows(rt: HostRuntime) -> Result<(), Fail> 
         assert!(rt; kinds.iter().all(|sent| *sent == kind));
         assert_eq!(rt; (node.promised(), node.next()), (Some(promise), next));
     }
-    let Some(taken) = node.take(alloc)? else {
-        return Err(Fail::new("nothing taken"));
-    };
-    assert_eq!(rt; (taken.slot, taken.value.id.origin), (1, A));
+    assert!(rt; node.learnt_remove(D) && !node.learnt_remove(A));
     Ok(())
 }
 
@@ -392,23 +400,20 @@ fn a_node_that_follows_answers_by_its_rows(rt: HostRuntime) -> Result<(), Fail> 
 fn a_leader_answers_by_its_rows(rt: HostRuntime) -> Result<(), Fail> {
     let alloc = rt.alloc();
     let mut node = Node::founder(alloc, A, &[A, B, C], 10)?;
+    assert_eq!(rt; node.turns().members(), [A, B, C].as_slice());
+    let votes = Sequence::new(alloc);
     let rows = [
-        (C, Wire::Offer(body(alloc, C, 0)?), 0, 0),
-        (C, Wire::Offer(body(alloc, C, 1)?), 2, ACCEPT),
-        (C, Wire::Offer(body(alloc, C, 1)?), 0, 0),
+        (C, Wire::Offer(value(C, 0, D)), 0, 0),
+        (C, Wire::Offer(value(C, 1, D)), 2, ACCEPT),
+        (C, Wire::Offer(value(C, 1, D)), 0, 0),
         (C, Wire::Accepted(ballot(2, A), 1), 0, 0),
         (C, Wire::Accepted(ballot(1, A), 9), 0, 0),
-        (
-            C,
-            Wire::Promise(ballot(2, A), 1, Sequence::new(alloc)),
-            0,
-            0,
-        ),
+        (C, Wire::Promise(ballot(2, A), 1, votes), 0, 0),
         (C, Wire::Accepted(ballot(1, A), 1), 2, LEARN),
         (B, Wire::Accepted(ballot(1, A), 1), 0, 0),
-        (C, Wire::Offer(body(alloc, C, 1)?), 2, ACCEPT),
+        (C, Wire::Offer(value(C, 1, D)), 2, ACCEPT),
         (C, Wire::Prepare(ballot(1, B), 1), 1, PROMISE),
-        (C, Wire::Offer(body(alloc, C, 2)?), 0, 0),
+        (C, Wire::Offer(value(C, 2, D)), 0, 0),
     ];
     for (from, wire, count, kind) in rows {
         let kinds = answer(alloc, &mut node, from, wire)?;
@@ -418,31 +423,37 @@ fn a_leader_answers_by_its_rows(rt: HostRuntime) -> Result<(), Fail> {
     Ok(())
 }
 
-// D was added to A and B in slot 5; so many configurations are told.
-fn welcome(alloc: Global, slot: u64, known: usize) -> Result<Welcome, Memory> {
+fn members(alloc: Global) -> Result<Vec<WelcomeMember>, Memory> {
+    let states = [
+        (A, MemberState::Online),
+        (B, MemberState::Online),
+        (D, MemberState::Recovering),
+    ];
+    let mut members = Vec::new(alloc);
+    for (inc, state) in states {
+        let joiner = Joiner {
+            inc,
+            uuid: [inc.server; 16],
+            version: [8, 0, 36],
+            weight: 50,
+        };
+        members.push(WelcomeMember {
+            joiner,
+            state,
+            last: 0,
+        })?;
+    }
+    Ok(members)
+}
+
+// D was added to A and B in this slot; so many configurations are told.
+fn welcome(alloc: Global, slot: u64, known: usize) -> Result<Wire, Memory> {
     let mut configs = Vec::new(alloc);
     for _ in 1..known {
         configs.push(Sequence::from_vec([A, B].to_vec(alloc)?))?;
     }
     configs.push(Sequence::from_vec([A, B, D].to_vec(alloc)?))?;
-    let mut members = Vec::new(alloc);
-    for inc in [A, B, D] {
-        members.push(WelcomeMember {
-            joiner: Joiner {
-                inc,
-                uuid: [inc.server; 16],
-                version: [8, 0, 36],
-                weight: 50,
-            },
-            state: if inc == D {
-                MemberState::Recovering
-            } else {
-                MemberState::Online
-            },
-            last: 0,
-        })?;
-    }
-    Ok(Welcome {
+    Ok(Wire::Welcome(Welcome {
         slot,
         place: Pos(2),
         number: 2,
@@ -450,41 +461,37 @@ fn welcome(alloc: Global, slot: u64, known: usize) -> Result<Welcome, Memory> {
         mode: Mode::Multi,
         primary: None,
         elected: Pos(0),
-        members: Sequence::from_vec(members),
+        members: Sequence::from_vec(members(alloc)?),
         ever: Sequence::from_vec([A, B, D].to_vec(alloc)?),
         configs: Sequence::from_vec(configs),
-    })
+    }))
 }
 
+fn known_members(node: &Node, slot: u64) -> usize {
+    match node.config(slot) {
+        Some(config) => config.len(),
+        None => 0,
+    }
+}
+
+// It promises before it is welcomed, and that promise isn't lowered.
 #[test]
 fn a_joiner_begins_with_its_first_welcome(rt: HostRuntime) -> Result<(), Fail> {
     let alloc = rt.alloc();
     let mut node = Node::joiner(alloc, D, 10);
-    assert_eq!(rt;
-        (node.next(), node.promised(), node.config(1).is_none()),
-        (0, None, true)
-    );
-    let rows = [
-        (Wire::Prepare(ballot(5, B), 1), 1, 0),
-        (Wire::Learn(6, body(alloc, A, 1)?), 0, 0),
-        (Wire::Welcome(welcome(alloc, 5, 9)?), 0, 0),
-        (Wire::Welcome(welcome(alloc, 5, 10)?), 0, 7),
-        (Wire::Welcome(welcome(alloc, 8, 10)?), 0, 7),
-    ];
-    for (wire, count, next) in rows {
-        let kinds = answer(alloc, &mut node, B, wire)?;
-        assert_eq!(rt; (kinds.len(), node.next()), (count, next));
+    assert!(rt; node.promised().is_none() && node.config(1).is_none());
+    answer(alloc, &mut node, B, Wire::Prepare(ballot(5, B), 1))?;
+    answer(alloc, &mut node, B, Wire::Learn(6, value(A, 1, C)))?;
+    for (slot, known, next) in [(5, 9, 0), (5, 10, 7), (8, 10, 7)] {
+        answer(alloc, &mut node, B, welcome(alloc, slot, known)?)?;
+        assert_eq!(rt; node.next(), next);
     }
     assert_eq!(rt;
         (node.promised(), node.kept_from()),
         (Some(ballot(5, B)), 6)
     );
-    for (slot, members) in [(5, 0), (6, 2), (14, 2), (15, 3), (16, 0)] {
-        let known = match node.config(slot) {
-            Some(config) => config.len(),
-            None => 0,
-        };
-        assert_eq!(rt; known, members);
+    for (slot, count) in [(5, 0), (6, 2), (14, 2), (15, 3), (16, 0)] {
+        assert_eq!(rt; known_members(&node, slot), count);
     }
     Ok(())
 }

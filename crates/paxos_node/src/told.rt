@@ -12,7 +12,7 @@ use std::alloc::Global;
 
 /// What another member has told of its slots: it has decided all below this one.
 #[derive(Clone, Copy, Debug, PartialEq, Eq)]
-pub struct ToldSlot {
+pub(crate) struct ToldSlot {
     pub inc: Inc,
     pub slot: u64,
 }
