@@ -29,9 +29,11 @@ const D: Inc = Inc {
     start: 1,
 };
 
-fn ballot(round: u32, inc: Inc) -> Ballot {
-    Ballot { round, inc }
-}
+const FIRST: Ballot = Ballot { round: 1, inc: A };
+
+const SECOND: Ballot = Ballot { round: 2, inc: C };
+
+const THIRD: Ballot = Ballot { round: 3, inc: A };
 
 // The value of this number, which removes an incarnation.
 fn value(origin: Inc, number: u64, removed: Inc) -> Value {
@@ -247,7 +249,7 @@ fn one_value_is_chosen_in_two_slots(rt: HostRuntime) -> Result<(), Fail> {
         [(1, 1), (2, 0), (1, 1), (2, 0)].as_slice()
     );
     assert_eq!(rt; net.wire.len(), 20);
-    assert_eq!(rt; net.state(A), (3, Some(ballot(2, C)), 1));
+    assert_eq!(rt; net.state(A), (3, Some(SECOND), 1));
     Ok(())
 }
 
@@ -307,9 +309,9 @@ fn slots_that_all_have_told_are_forgotten(rt: HostRuntime) -> Result<(), Fail> {
         Act::Hears(9),
     ];
     let mut net = after(rt.alloc(), &acts)?;
-    assert_eq!(rt; net.state(A), (2, Some(ballot(1, A)), 1));
+    assert_eq!(rt; net.state(A), (2, Some(FIRST), 1));
     net.act(rt.alloc(), Act::Hears(11))?;
-    assert_eq!(rt; net.state(A), (2, Some(ballot(1, A)), 2));
+    assert_eq!(rt; net.state(A), (2, Some(FIRST), 2));
     Ok(())
 }
 
@@ -331,100 +333,104 @@ fn who_was_removed_is_told_so(rt: HostRuntime) -> Result<(), Fail> {
     let net = after(rt.alloc(), &acts)?;
     let sent = net.sent_after(rt.alloc(), 9)?;
     assert_eq!(rt; sent.as_slice(), [(3, GONE)].as_slice());
-    assert_eq!(rt; net.state(A), (2, Some(ballot(1, A)), 2));
+    assert_eq!(rt; net.state(A), (2, Some(FIRST), 2));
     Ok(())
 }
 
-// The kinds of what the node sends when it hears this.
-fn answer(alloc: Global, node: &mut Node, from: Inc, wire: Wire) -> Result<Vec<u8>, Fail> {
+// What a node is told: a slot goes with a ballot, and with the origin of the first value that it makes.
+#[derive(Clone, Copy)]
+enum Says {
+    Prepare(Ballot),
+    Promise(Ballot),
+    Accept(Ballot, u64),
+    Accepted(Ballot, u64),
+    Learn(u64, Inc),
+    Offer(u64),
+    Alive(u64),
+    Gone,
+}
+
+fn said(alloc: Global, says: Says) -> Wire {
+    match says {
+        Says::Prepare(ballot) => Wire::Prepare(ballot, 1),
+        Says::Promise(ballot) => Wire::Promise(ballot, 1, Sequence::new(alloc)),
+        Says::Accept(ballot, slot) => Wire::Accept(ballot, slot, value(C, 1, D)),
+        Says::Accepted(ballot, slot) => Wire::Accepted(ballot, slot),
+        Says::Learn(slot, origin) => Wire::Learn(slot, value(origin, 1, origin)),
+        Says::Offer(number) => Wire::Offer(value(C, number, D)),
+        Says::Alive(slot) => Wire::Alive(slot),
+        Says::Gone => Wire::Gone,
+    }
+}
+
+// How many messages the node sends when it hears this, and of which kind the last one is.
+fn answer(alloc: Global, node: &mut Node, from: Inc, wire: Wire) -> Result<(usize, u8), Fail> {
     let to = B;
     let event = PaxosEvent::Heard(Message { from, to, wire });
     if !may_happen(&event) {
         return Err(Fail::new("out of range"));
     }
     let sent = node.step(alloc, &event)?;
-    let mut kinds = Vec::new(alloc);
-    for message in &sent {
-        kinds.push(kind(&message.wire))?;
+    match sent.last() {
+        Some(message) => Ok((sent.len(), kind(&message.wire))),
+        None => Ok((0, 0)),
     }
-    Ok(kinds)
 }
 
 // Each row: the sender, what it says, how many messages answer, of which kind, the promise then, and the least
 // undecided slot.
 #[test]
 fn a_node_that_follows_answers_by_its_rows(rt: HostRuntime) -> Result<(), Fail> {
-    let alloc = rt.alloc();
-    let mut node = Node::founder(alloc, B, &[A, B, C], 10)?;
-    let votes = Sequence::new(alloc);
-    let (second, third) = (ballot(2, C), ballot(3, A));
     let rows = [
-        (
-            C,
-            Wire::Accept(second, 3, value(C, 1, D)),
-            1,
-            ACCEPTED,
-            second,
-            1,
-        ),
-        (
-            A,
-            Wire::Accept(ballot(1, A), 3, value(A, 1, D)),
-            0,
-            0,
-            second,
-            1,
-        ),
-        (A, Wire::Prepare(ballot(1, A), 1), 0, 0, second, 1),
-        (C, Wire::Prepare(second, 1), 1, PROMISE, second, 1),
-        (A, Wire::Prepare(third, 1), 1, PROMISE, third, 1),
-        (C, Wire::Promise(third, 1, votes), 0, 0, third, 1),
-        (C, Wire::Accepted(third, 3), 0, 0, third, 1),
-        (A, Wire::Learn(2, value(A, 2, D)), 0, 0, third, 1),
-        (A, Wire::Learn(1, value(A, 1, D)), 0, 0, third, 3),
-        (A, Wire::Learn(1, value(C, 1, A)), 0, 0, third, 3),
-        (C, Wire::Offer(value(C, 0, D)), 0, 0, third, 3),
-        (C, Wire::Offer(value(C, 2, D)), 0, 0, third, 3),
-        (C, Wire::Alive(1), 2, LEARN, third, 3),
-        (C, Wire::Alive(2), 1, LEARN, third, 3),
-        (C, Wire::Alive(3), 0, 0, third, 3),
-        (D, Wire::Alive(1), 0, 0, third, 3),
-        (A, Wire::Gone, 0, 0, third, 3),
+        (C, Says::Accept(SECOND, 3), 1, ACCEPTED, SECOND, 1),
+        (A, Says::Accept(FIRST, 3), 0, 0, SECOND, 1),
+        (A, Says::Prepare(FIRST), 0, 0, SECOND, 1),
+        (C, Says::Prepare(SECOND), 1, PROMISE, SECOND, 1),
+        (A, Says::Prepare(THIRD), 1, PROMISE, THIRD, 1),
+        (C, Says::Promise(THIRD), 0, 0, THIRD, 1),
+        (C, Says::Accepted(THIRD, 3), 0, 0, THIRD, 1),
+        (A, Says::Learn(2, D), 0, 0, THIRD, 1),
+        (A, Says::Learn(1, A), 0, 0, THIRD, 3),
+        (A, Says::Learn(1, B), 0, 0, THIRD, 3),
+        (C, Says::Offer(0), 0, 0, THIRD, 3),
+        (C, Says::Offer(2), 0, 0, THIRD, 3),
+        (C, Says::Alive(1), 2, LEARN, THIRD, 3),
+        (C, Says::Alive(2), 1, LEARN, THIRD, 3),
+        (C, Says::Alive(3), 0, 0, THIRD, 3),
+        (D, Says::Alive(1), 0, 0, THIRD, 3),
+        (A, Says::Gone, 0, 0, THIRD, 3),
     ];
-    for (from, wire, count, kind, promise, next) in rows {
-        let kinds = answer(alloc, &mut node, from, wire)?;
-        assert_eq!(rt; kinds.len(), count);
-        assert!(rt; kinds.iter().all(|sent| *sent == kind));
+    let mut node = Node::founder(rt.alloc(), B, &[A, B, C], 10)?;
+    for (from, says, count, kind, promise, next) in rows {
+        let sent = answer(rt.alloc(), &mut node, from, said(rt.alloc(), says))?;
+        assert_eq!(rt; sent, (count, kind));
         assert_eq!(rt; (node.promised(), node.next()), (Some(promise), next));
     }
-    assert!(rt; node.learnt_remove(D) && !node.learnt_remove(A));
+    assert!(rt; node.learnt_remove(A) && !node.learnt_remove(B));
     Ok(())
 }
 
 // Each row: the sender, what it says to the leader, how many messages answer, and of which kind.
 #[test]
 fn a_leader_answers_by_its_rows(rt: HostRuntime) -> Result<(), Fail> {
-    let alloc = rt.alloc();
-    let mut node = Node::founder(alloc, A, &[A, B, C], 10)?;
-    assert_eq!(rt; node.turns().members(), [A, B, C].as_slice());
-    let votes = Sequence::new(alloc);
     let rows = [
-        (C, Wire::Offer(value(C, 0, D)), 0, 0),
-        (C, Wire::Offer(value(C, 1, D)), 2, ACCEPT),
-        (C, Wire::Offer(value(C, 1, D)), 0, 0),
-        (C, Wire::Accepted(ballot(2, A), 1), 0, 0),
-        (C, Wire::Accepted(ballot(1, A), 9), 0, 0),
-        (C, Wire::Promise(ballot(2, A), 1, votes), 0, 0),
-        (C, Wire::Accepted(ballot(1, A), 1), 2, LEARN),
-        (B, Wire::Accepted(ballot(1, A), 1), 0, 0),
-        (C, Wire::Offer(value(C, 1, D)), 2, ACCEPT),
-        (C, Wire::Prepare(ballot(1, B), 1), 1, PROMISE),
-        (C, Wire::Offer(value(C, 2, D)), 0, 0),
+        (C, Says::Offer(0), 0, 0),
+        (C, Says::Offer(1), 2, ACCEPT),
+        (C, Says::Offer(1), 0, 0),
+        (C, Says::Accepted(SECOND, 1), 0, 0),
+        (C, Says::Accepted(FIRST, 9), 0, 0),
+        (C, Says::Promise(SECOND), 0, 0),
+        (C, Says::Accepted(FIRST, 1), 2, LEARN),
+        (B, Says::Accepted(FIRST, 1), 0, 0),
+        (C, Says::Offer(1), 2, ACCEPT),
+        (C, Says::Prepare(SECOND), 1, PROMISE),
+        (C, Says::Offer(2), 0, 0),
     ];
-    for (from, wire, count, kind) in rows {
-        let kinds = answer(alloc, &mut node, from, wire)?;
-        assert_eq!(rt; kinds.len(), count);
-        assert!(rt; kinds.iter().all(|sent| *sent == kind));
+    let mut node = Node::founder(rt.alloc(), A, &[A, B, C], 10)?;
+    assert_eq!(rt; node.turns().members(), [A, B, C].as_slice());
+    for (from, says, count, kind) in rows {
+        let sent = answer(rt.alloc(), &mut node, from, said(rt.alloc(), says))?;
+        assert_eq!(rt; sent, (count, kind));
     }
     Ok(())
 }
@@ -463,7 +469,7 @@ fn welcome(alloc: Global, slot: u64, known: usize) -> Result<Wire, Memory> {
         slot,
         place: Pos(2),
         number: 2,
-        promise: ballot(1, A),
+        promise: FIRST,
         mode: Mode::Multi,
         primary: None,
         elected: Pos(0),
@@ -486,16 +492,14 @@ fn a_joiner_begins_with_its_first_welcome(rt: HostRuntime) -> Result<(), Fail> {
     let alloc = rt.alloc();
     let mut node = Node::joiner(alloc, D, 10);
     assert!(rt; node.promised().is_none() && node.config(1).is_none());
-    answer(alloc, &mut node, B, Wire::Prepare(ballot(5, B), 1))?;
-    answer(alloc, &mut node, B, Wire::Learn(6, value(A, 1, C)))?;
+    for says in [Says::Prepare(THIRD), Says::Learn(6, A)] {
+        answer(alloc, &mut node, B, said(alloc, says))?;
+    }
     for (slot, known, next) in [(5, 9, 0), (5, 10, 7), (8, 10, 7)] {
         answer(alloc, &mut node, B, welcome(alloc, slot, known)?)?;
         assert_eq!(rt; node.next(), next);
     }
-    assert_eq!(rt;
-        (node.promised(), node.kept_from()),
-        (Some(ballot(5, B)), 6)
-    );
+    assert_eq!(rt; (node.promised(), node.kept_from()), (Some(THIRD), 6));
     for (slot, count) in [(5, 0), (6, 2), (14, 2), (15, 3), (16, 0)] {
         assert_eq!(rt; known_members(&node, slot), count);
     }
