@@ -1,0 +1,43 @@
+-- How a certifier stands in maps by incarnation and by item.
+use Rattle.std.specs.Prelude.{◌≡◌, ℕ, ◌≤◌, ◌*◌, true, IfSome, IsSome, List, map}
+use Rattle.std.specs.List.Sorted.{IsStrictlySortedBy}
+use Rattle.std.specs.Map.{keys_of, lookup}
+use Rattle.std.specs.BTreeMap.{is_at}
+use Rattle.std.specs.Cmp.Lexicographic.{slice_cmp}
+use Rattle.std.specs.Ordering.{nat_cmp, ordering_then}
+use Rattle.std.specs.declared.cmp.Ordering.{Ordering}
+use Rattle.gr_ids.specs.declared.names.Inc.{Inc}
+use Rattle.gr_ids.specs.declared.names.LastNumber.{LastNumber}
+use Rattle.key_items.specs.declared.item.Item.{Item}
+use Rattle.key_items.specs.declared.item.KeptItem.{KeptItem}
+use Rattle.key_items.specs.Items.{has_item}
+use Rattle.group_rules.specs.Certifier.{Certifier}
+use Rattle.certifier.specs.declared.kept.Writer.{Writer}
+
+-- by server, then start
+abbrev pub inc_cmp : Inc → Inc → Ordering
+inc_cmp a b = ordering_then (nat_cmp a.server b.server) (nat_cmp a.start b.start)
+
+-- by table, then key, as bytes
+abbrev pub item_cmp : Item → Item → Ordering
+item_cmp a b = ordering_then (slice_cmp nat_cmp a.table b.table) (slice_cmp nat_cmp a.key b.key)
+
+abbrev pub last_in : Inc × ℕ → LastNumber
+last_in e = record { inc = e.0; number = e.1 }
+
+abbrev pub kept_in : Item × Writer → KeptItem
+kept_in e = record { item = e.0; gtid = e.1.gtid; place = e.1.place }
+
+abbrev pub certified_in : ℕ → List (Inc × ℕ) → List (Item × Writer) → Certifier
+certified_in blocks last items = record { blocks = blocks; last = map last_in last; items = map kept_in items }
+
+-- each of these items is kept
+abbrev pub AreThere : List (Item × Writer) → List Item → Type 0
+AreThere es is = (i : Item) → has_item is i ≡ true → IsSome (lookup (is_at (item_cmp i)) es)
+
+-- blocks are of 1 to 1,000,000 numbers, no last number is above those of the blocks taken, and the items ascend
+pub record IsSound (block blocks : ℕ) (last : List (Inc × ℕ)) (items : List (Item × Writer)) : Type 0 where
+  pub least : 1 ≤ block
+  pub most : block ≤ 1000000
+  pub numbers : (i : Inc) → IfSome (lookup (is_at (inc_cmp i)) last) (λ n. n ≤ blocks * block)
+  pub ordered : IsStrictlySortedBy item_cmp (keys_of items)
