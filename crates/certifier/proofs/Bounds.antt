@@ -20,7 +20,7 @@ with_one n [] x h l = (l, tt)
 with_one n (y ∷ ys) x h l = go (inc_lt x.inc y.inc) (inc_eq x.inc y.inc) refl refl (with_one n ys x h.1 l)
   where
     go : (u v : Bool) → inc_lt x.inc y.inc ≡ u → inc_eq x.inc y.inc ≡ v → AreBelow n (with_last ys x) → AreBelow n (with_last (y ∷ ys) x)
-    go true v e f r = rw (e, with_last) (l, h.0, h.1)
+    go true v e f r = rw (e, with_last) (l, h)
     go false true e f r = rw (e, f, with_last) (l, h.1)
     go false false e f r = rw (e, f, with_last) (h.0, r)
 

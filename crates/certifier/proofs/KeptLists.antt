@@ -1,5 +1,5 @@
 -- An ascending list of kept items put into a map.
-use Rattle.std.proofs.Common.{◌≡◌, Bool, true, false, List, [], ◌∷◌, ◌++◌, map, append_assoc, refl, sym, ap, ◌∙◌}
+use Rattle.std.proofs.Common.{◌≡◌, Bool, true, false, List, [], ◌∷◌, ◌++◌, map, length, arith, append_assoc, refl, sym, ap, ◌∙◌}
 use Rattle.std.specs.Prelude.{fold}
 use Rattle.std.specs.BTreeMap.{BTreeMap, IsOrdered, insert_entry}
 use Rattle.std.proofs.lemmas.Bool.{and_parts}
@@ -64,3 +64,7 @@ filling_next all m n left rest k f l e o = record {
 
 pub filling_end : (all : List KeptItem) (m : BTreeMap Item Writer) (left : List KeptItem) → ascend (map item_of all) ≡ true → left ≡ [] → Filling all m left → map kept_in m.entries ≡ all
 filling_end all m left a l f = ap (fold with_kept (map kept_in m.entries)) (sym l) ∙ (f.whole ∙ filled_up all a)
+
+pub no_items : (ks : List KeptItem) → length ks ≡ 0 → ks ≡ []
+no_items [] e = refl
+no_items (k ∷ ks) e = absurd (omega (arith, e))

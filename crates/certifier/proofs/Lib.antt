@@ -6,3 +6,5 @@ pub mod KeptLists
 pub mod Bounds
 pub mod PuttingBack
 pub mod WritingItems
+pub mod Results
+pub mod Positive

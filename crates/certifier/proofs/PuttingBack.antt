@@ -55,59 +55,60 @@ mapped_at was (x ∷ xs) zero d e l = refl
 mapped_at was (x ∷ xs) (suc k) d e l = mapped_at was xs k d e (omega arith)
 
 -- one more is put back
-pub backing_next : (written : List Item) (before : List (Option Writer)) (es : Entries) (n : ℕ) (now then : Entries) (d : Item) (e : Option Writer) → n < length written
-    → ((IsSome (get_or before n e) → IsSome (writer_at now (get_or written n d))) → (q : Item) → writer_at then q ≡ cond (is_eq (item_cmp (get_or written n d) q)) (get_or before n e) (writer_at now q))
-    → IsStrictlySortedBy item_cmp (keys_of then) → Backing written before es n now → Backing written before es (n + 1) then
-backing_next written before es n now then d e l put o b = record { back = back; ordered = λ _. o }
+pub backing_next : (written : List Item) (before : List (Option Writer)) (es : Entries) (n : ℕ) (now after : Entries) (item : Item) (value : Option Writer) → n < length written
+    → item ≡ get_or written n item → value ≡ get_or before n value
+    → ((IsSome value → IsSome (writer_at now item)) → (q : Item) → writer_at after q ≡ cond (is_eq (item_cmp item q)) value (writer_at now q))
+    → IsStrictlySortedBy item_cmp (keys_of after) → Backing written before es n now → Backing written before es (n + 1) after
+backing_next written before es n now after item had l item_is had_is put o b = record { back = back; ordered = λ _. o }
   where
-    item : Item
-    item = get_or written n d
-
-    back : (was : Item → Option Writer) → before ≡ map was written → AreThere es written → BackTo written was es (n + 1) then
+    back : (was : Item → Option Writer) → before ≡ map was written → AreThere es written → BackTo written was es (n + 1) after
     back was is t = record { value = value; there = there }
       where
         so_far : BackTo written was es n now
         so_far = b.back was is t
 
-        had : get_or before n e ≡ was item
-        had = ap (λ ws. get_or ws n e) is ∙ mapped_at was written n d e l
+        had_was : had ≡ was item
+        had_was = had_is ∙ (ap (λ ws. get_or ws n had) is ∙ (mapped_at was written n item had l ∙ ap was (sym item_is)))
 
-        here : (q : Item) → writer_at then q ≡ cond (is_eq (item_cmp item q)) (get_or before n e) (writer_at now q)
-        here = put (λ s. so_far.there item (has_its_own written n d l) (subst (λ (w : Option Writer). IsSome w) had s))
+        own : has_item written item ≡ true
+        own = subst (λ i. has_item written i ≡ true) (sym item_is) (has_its_own written n item l)
+
+        here : (q : Item) → writer_at after q ≡ cond (is_eq (item_cmp item q)) had (writer_at now q)
+        here = put (λ s. so_far.there item own (subst (λ (w : Option Writer). IsSome w) had_was s))
 
         at : drop n written ≡ item ∷ drop (n + 1) written
-        at = rw (add-one, drop-cons written n d l) refl
+        at = rw (add-one) (drop-cons written n item l ∙ ap (λ i. i ∷ drop (suc n) written) (sym item_is))
 
-        value : (q : Item) → (if has_item (drop (n + 1) written) q then was q else writer_at then q) ≡ (if has_item written q then was q else writer_at es q)
+        value : (q : Item) → (if has_item (drop (n + 1) written) q then was q else writer_at after q) ≡ (if has_item written q then was q else writer_at es q)
         value q = go (item_eq q item) refl (has_item (drop (n + 1) written) q) (here q) (ap (λ is. if has_item is q then was q else writer_at now q) (sym at) ∙ so_far.value q)
           where
-            go : (u : Bool) → item_eq q item ≡ u → (v : Bool) → writer_at then q ≡ cond (is_eq (item_cmp item q)) (get_or before n e) (writer_at now q)
+            go : (u : Bool) → item_eq q item ≡ u → (v : Bool) → writer_at after q ≡ cond (is_eq (item_cmp item q)) had (writer_at now q)
                 → (if (item_eq q item || v) then was q else writer_at now q) ≡ (if has_item written q then was q else writer_at es q)
-                → (if v then was q else writer_at then q) ≡ (if has_item written q then was q else writer_at es q)
+                → (if v then was q else writer_at after q) ≡ (if has_item written q then was q else writer_at es q)
             go true f v h r =
                 let same : q ≡ item = item_eq_same q item f in
-                let new : writer_at then q ≡ was q = h ∙ (ap (λ c. cond c (get_or before n e) (writer_at now q)) (sym (item_eq_back item q) ∙ f) ∙ (had ∙ ap was (sym same))) in
+                let new : writer_at after q ≡ was q = h ∙ (ap (λ c. cond c had (writer_at now q)) (sym (item_eq_back item q) ∙ f) ∙ (had_was ∙ ap was (sym same))) in
                 let old : was q ≡ (if has_item written q then was q else writer_at es q) = rw f at r in
                 either v new old
               where
-                either : (v : Bool) → writer_at then q ≡ was q → was q ≡ (if has_item written q then was q else writer_at es q) → (if v then was q else writer_at then q) ≡ (if has_item written q then was q else writer_at es q)
+                either : (v : Bool) → writer_at after q ≡ was q → was q ≡ (if has_item written q then was q else writer_at es q) → (if v then was q else writer_at after q) ≡ (if has_item written q then was q else writer_at es q)
                 either true new old = old
                 either false new old = new ∙ old
             go false f v h r =
-                let new : writer_at then q ≡ writer_at now q = h ∙ ap (λ c. cond c (get_or before n e) (writer_at now q)) (sym (item_eq_back item q) ∙ f) in
+                let new : writer_at after q ≡ writer_at now q = h ∙ ap (λ c. cond c had (writer_at now q)) (sym (item_eq_back item q) ∙ f) in
                 let old : (if v then was q else writer_at now q) ≡ (if has_item written q then was q else writer_at es q) = rw f at r in
                 ap (λ w. if v then was q else w) new ∙ old
 
-        there : (q : Item) → has_item written q ≡ true → IsSome (was q) → IsSome (writer_at then q)
+        there : (q : Item) → has_item written q ≡ true → IsSome (was q) → IsSome (writer_at after q)
         there q h s = go (item_eq q item) refl (here q) (so_far.there q h s)
           where
-            go : (u : Bool) → item_eq q item ≡ u → writer_at then q ≡ cond (is_eq (item_cmp item q)) (get_or before n e) (writer_at now q) → IsSome (writer_at now q) → IsSome (writer_at then q)
+            go : (u : Bool) → item_eq q item ≡ u → writer_at after q ≡ cond (is_eq (item_cmp item q)) had (writer_at now q) → IsSome (writer_at now q) → IsSome (writer_at after q)
             go true f r m =
                 let same : q ≡ item = item_eq_same q item f in
-                let new : writer_at then q ≡ was q = r ∙ (ap (λ c. cond c (get_or before n e) (writer_at now q)) (sym (item_eq_back item q) ∙ f) ∙ (had ∙ ap was (sym same))) in
+                let new : writer_at after q ≡ was q = r ∙ (ap (λ c. cond c had (writer_at now q)) (sym (item_eq_back item q) ∙ f) ∙ (had_was ∙ ap was (sym same))) in
                 subst (λ (w : Option Writer). IsSome w) (sym new) s
             go false f r m =
-                let new : writer_at then q ≡ writer_at now q = r ∙ ap (λ c. cond c (get_or before n e) (writer_at now q)) (sym (item_eq_back item q) ∙ f) in
+                let new : writer_at after q ≡ writer_at now q = r ∙ ap (λ c. cond c had (writer_at now q)) (sym (item_eq_back item q) ∙ f) in
                 subst (λ (w : Option Writer). IsSome w) (sym new) m
 
 pub backing_end : (written : List Item) (before : List (Option Writer)) (es : Entries) (n : ℕ) (now : Entries) → length written ≤ n → Backing written before es n now

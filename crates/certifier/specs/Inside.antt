@@ -11,8 +11,8 @@ use Rattle.gr_ids.specs.declared.names.LastNumber.{LastNumber}
 use Rattle.key_items.specs.declared.item.Item.{Item}
 use Rattle.key_items.specs.declared.item.KeptItem.{KeptItem}
 use Rattle.key_items.specs.Items.{has_item}
-use Rattle.group_rules.specs.Certifier.{Certifier}
 use Rattle.certifier.specs.declared.kept.Writer.{Writer}
+use Rattle.certifier.specs.Certifying.{Certifying}
 
 -- by server, then start
 abbrev pub inc_cmp : Inc → Inc → Ordering
@@ -28,8 +28,8 @@ last_in e = record { inc = e.0; number = e.1 }
 abbrev pub kept_in : Item × Writer → KeptItem
 kept_in e = record { item = e.0; gtid = e.1.gtid; place = e.1.place }
 
-abbrev pub certified_in : ℕ → List (Inc × ℕ) → List (Item × Writer) → Certifier
-certified_in blocks last items = record { blocks = blocks; last = map last_in last; items = map kept_in items }
+abbrev pub certifying_in : List ℕ → ℕ → ℕ → List (Inc × ℕ) → List (Item × Writer) → Certifying
+certifying_in group block blocks last items = record { group = group; block = block; certified = record { blocks = blocks; last = map last_in last; items = map kept_in items } }
 
 -- each of these items is kept
 abbrev pub AreThere : List (Item × Writer) → List Item → Type 0

@@ -35,11 +35,11 @@ pub struct Certifier {
 
 impl Model for Certifier {
     ghost use Rattle.certifier.specs.Certifying.{Certifying};
-    ghost use Rattle.certifier.specs.Inside.{IsSound, certified_in};
+    ghost use Rattle.certifier.specs.Inside.{IsSound, certifying_in};
 
     ghost Value = { Certifying };
 
-    ghost view = { λ c. record { group = c.group; block = c.block; certified = certified_in c.blocks c.last.entries c.items.entries } };
+    ghost view = { λ c. certifying_in c.group c.block c.blocks c.last.entries c.items.entries };
 
     ghost invariant = { λ c. IsSound c.block c.blocks c.last.entries c.items.entries };
 }

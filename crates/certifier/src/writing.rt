@@ -1,5 +1,5 @@
 // Writers put into the map of items.
-ghost use Rattle.std.specs.Prelude.{◌≡◌, cond, if◌then◌else◌, IfOk, IsSome, length, map, OnErr, OnOk, Option};
+ghost use Rattle.std.specs.Prelude.{◌≡◌, cond, if◌then◌else◌, IfOk, IsSome, length, map, OnErr, OnOk, Option, Some};
 ghost use Rattle.std.specs.BTreeMap.{get, insert_entry, IsOrdered};
 ghost use Rattle.std.specs.Ordering.{is_eq};
 ghost use Rattle.key_items.specs.declared.item.Item.{Item as AnyItem};
@@ -59,6 +59,7 @@ fn write_item(
 ) -> Result<(), Memory>
     requires { IsOrdered item_cmp items.old }
     ensures ok { OnOk result (items.new.entries ≡ insert_entry item_cmp items.old.entries item.now writer) }
+    ensures there { OnOk result ((q : AnyItem) → get item_cmp items.new q ≡ cond (is_eq (item_cmp item.now q)) (Some writer) (get item_cmp items.old q)) }
     ensures err { OnErr result (items.new.entries ≡ items.old.entries) }
     ensures ordered { IsOrdered item_cmp items.new }
 {

@@ -1,10 +1,12 @@
 -- One item more is put in; items that ascend are put in as they are.
-use Rattle.std.proofs.Common.{◌≡◌, ap, sym, ◌∙◌}
-use Rattle.certifier.proofs.KeptLists.{filling_next, filling_end}
+use Rattle.std.proofs.Common.{◌≡◌, sym, ◌∙◌}
+use Rattle.certifier.proofs.KeptLists.{filling_next, filling_end, no_items}
 use Rattle.certifier.proofs.copying.writers_by_item.Goals as goal
 
 pub loop-one-preserved : goal.loop-one-preserved
 loop-one-preserved c = filling_next c.args.kept c.loop-one.items c.insert.new.self c.loop-one.one-iterator.rest.items c.next.new.self.rest.items c.in-Some.one c.loop-one.invariant c.in-Some.ensures.steps.0 c.in_ok-insert.ensures.entries c.in_ok-insert.ensures.ordered
 
 pub returns-clause-kept : goal.returns-clause-kept
-returns-clause-kept c = let h = c.loop-one.one-iterator.rest.ok in let k = c.in-None.ensures.steps in ?
+returns-clause-kept c =
+    let left = c.loop-one.one-iterator.rest in
+    filling_end c.args.kept c.loop-one.items left.items c.requires (no_items left.items (sym left.ok.0 ∙ c.in-None.ensures.steps.0)) c.loop-one.invariant
