@@ -1,11 +1,11 @@
 -- An ascending list of kept items put into a map.
-use Rattle.std.proofs.Common.{◌≡◌, Bool, true, false, List, [], ◌∷◌, ◌++◌, map, length, arith, append_assoc, refl, sym, ap, ◌∙◌}
+use Rattle.std.proofs.Common.{◌≡◌, true, List, [], ◌∷◌, ◌++◌, map, length, arith, append_assoc, refl, sym, ap, ◌∙◌}
 use Rattle.std.specs.Prelude.{fold}
 use Rattle.std.specs.BTreeMap.{BTreeMap, IsOrdered, insert_entry}
 use Rattle.std.proofs.lemmas.Bool.{and_parts}
 use Rattle.key_items.specs.declared.item.Item.{Item}
 use Rattle.key_items.specs.declared.item.KeptItem.{KeptItem}
-use Rattle.key_items.specs.Items.{item_eq, item_lt, ascend}
+use Rattle.key_items.specs.Items.{item_lt, ascend}
 use Rattle.key_items.proofs.Order.{Stands, Below, Same, Above, stands, item_lt_trans}
 use Rattle.group_rules.specs.Certifier.{with_kept}
 use Rattle.certifier.specs.declared.kept.Writer.{Writer}

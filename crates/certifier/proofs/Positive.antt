@@ -1,5 +1,5 @@
 -- A positive transaction: the blocks taken, the last numbers and the items after it.
-use Rattle.std.proofs.Common.{◌≡◌, ℕ, suc, ◌+◌, ◌*◌, ◌%◌, ◌≤◌, ◌<◌, ◌⊎◌, inl, inr, Bool, true, false, cond, Option, Some, None, List, map, refl, sym, ap, subst, ◌∙◌, arith, eqb}
+use Rattle.std.proofs.Common.{◌≡◌, ℕ, suc, ◌+◌, ◌*◌, ◌%◌, ◌≤◌, ◌<◌, ◌⊎◌, inl, inr, Bool, true, false, cond, Option, Some, None, List, refl, sym, ap, subst, ◌∙◌, arith, eqb}
 use Rattle.std.specs.Prelude.{if◌then◌else◌, option_map, is_some, IsSome, IfSome}
 use Rattle.std.specs.List.Sorted.{IsStrictlySortedBy}
 use Rattle.std.specs.Map.{keys_of, lookup}
@@ -14,7 +14,7 @@ use Rattle.gr_ids.specs.declared.names.LastNumber.{LastNumber}
 use Rattle.key_items.specs.declared.item.Item.{Item}
 use Rattle.key_items.specs.declared.item.KeptItem.{KeptItem}
 use Rattle.txn_forms.specs.declared.body.Txn.{Txn}
-use Rattle.group_rules.specs.Certifier.{Certifier, blocker, next_gtid, number_after, opens_block, with_last, written_by}
+use Rattle.group_rules.specs.Certifier.{blocker, next_gtid, number_after, opens_block, with_last, written_by}
 use Rattle.certifier.specs.declared.kept.Writer.{Writer}
 use Rattle.certifier.specs.Blockers.{writer_of}
 use Rattle.certifier.specs.Certifying.{Certifying, limits_of, with_txn}

@@ -1,5 +1,5 @@
 -- The writer that stands in the way of a transaction, item by item.
-use Rattle.std.specs.Prelude.{Option, Some, None, List, [], ◌∷◌, if◌then◌else◌, nat_lt}
+use Rattle.std.specs.Prelude.{Option, Some, None, if◌then◌else◌, nat_lt}
 use Rattle.gtid_sets.specs.Sets.{Gtids, has}
 use Rattle.key_items.specs.declared.item.KeptItem.{KeptItem}
 use Rattle.certifier.specs.declared.kept.Writer.{Writer}

@@ -27,11 +27,7 @@ pub(crate) fn copied_last(
 }
 
 // Puts the origin's last number behind the others, where it has one.
-fn push_last(
-    to: &mut Vec<LastNumber>,
-    last: &BTreeMap<Inc, u64>,
-    inc: Inc,
-) -> Result<(), Memory>
+fn push_last(to: &mut Vec<LastNumber>, last: &BTreeMap<Inc, u64>, inc: Inc) -> Result<(), Memory>
     ensures { OnOk result (to.new.items ≡ to.old.items ++ numbers_of (map last_in last.now.entries) (inc ∷ [])) }
 {
     if let Some(number) = last.get(&inc) {

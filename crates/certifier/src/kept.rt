@@ -35,11 +35,7 @@ pub(crate) fn blocker(items: &BTreeMap<Item, Writer>, txn: &Txn) -> Option<Write
 }
 
 // The last writer of the item, where the snapshot lacks it.
-fn unseen_writer(
-    items: &BTreeMap<Item, Writer>,
-    snapshot: &GtidSet,
-    item: &Item,
-) -> Option<Writer>
+fn unseen_writer(items: &BTreeMap<Item, Writer>, snapshot: &GtidSet, item: &Item) -> Option<Writer>
     ensures { result ≡ unseen snapshot.now (lookup (is_at (item_cmp item.now)) items.now.entries) }
 {
     match items.get(item) {

@@ -45,10 +45,12 @@ fn writers_of(
 ) -> Result<Vec<Option<Writer>>, Memory>
     ensures { IfOk result (λ v. v.items ≡ map (get item_cmp items.now) written.now) }
 {
-    Ok(written
-        .iter()
-        .map(|item| items.get(item).copied())
-        .collect(alloc)?)
+    Ok(
+        written
+            .iter()
+            .map(|item| items.get(item).copied())
+            .collect(alloc)?,
+    )
 }
 
 fn write_item(
@@ -68,11 +70,7 @@ fn write_item(
 }
 
 // Gives each of these items the writer that it had before.
-fn put_all_back(
-    items: &mut BTreeMap<Item, Writer>,
-    written: &[Item],
-    before: &[Option<Writer>],
-)
+fn put_all_back(items: &mut BTreeMap<Item, Writer>, written: &[Item], before: &[Option<Writer>])
     requires { length before.now ≡ length written.now }
     ensures back { (was : AnyItem → Option AnyWriter) → before.now ≡ map was written.now → AreThere items.old.entries written.now
         → (q : AnyItem) → get item_cmp items.new q ≡ (if has_item written.now q then was q else get item_cmp items.old q) }

@@ -1,6 +1,6 @@
 -- How a joiner asks for what it lacks.
 -- (MySQL 8.0 Reference Manual, Group Replication: Connection Attempts for Distributed Recovery.)
-use Rattle.std.specs.Prelude.{◌≡◌, ℕ, suc, Bool, true, false, ◌&&◌, not, is_some, nat_lt, nat_le, Option, Some, None, List, []}
+use Rattle.std.specs.Prelude.{◌≡◌, ℕ, suc, Bool, true, false, ◌&&◌, not, is_some, nat_lt, nat_le, Option, Some, None, []}
 use Rattle.gr_ids.specs.declared.names.Inc.{Inc}
 use Rattle.gtid_sets.specs.Sets.{Gtids, minus}
 use Rattle.paxos_forms.specs.declared.recovery.Ask.{Ask}

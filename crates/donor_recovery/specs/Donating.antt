@@ -44,9 +44,13 @@ abbrev pub gtids_given : List Given → Gtids
 gtids_given [] = []
 gtids_given (g ∷ gs) = with_gtid (gtids_given gs) g.gtid
 
+-- what stood at the place of an Add, with what is certified and what is lacking
+abbrev pub give_made : ℕ → AtAdd → Gtids → List Given → Give
+give_made p a s ts = record { place = p; blocks = a.blocks; last = a.last; items = a.items; told = a.told; certified = s; txns = ts; parts = a.parts }
+
 -- what a joiner that has this set is given of an Add, `known` being the certified transactions at or before it
 abbrev pub give_from : AtAdd → List Given → Gtids → Give
-give_from a known e = record { place = a.place; blocks = a.blocks; last = a.last; items = a.items; told = a.told; certified = gtids_given known; txns = filter (λ g. not (has e g.gtid)) known; parts = a.parts }
+give_from a known e = give_made a.place a (gtids_given known) (filter (λ g. not (has e g.gtid)) known)
 
 -- why nothing is given: no data of that place is kept, or memory was refused
 abbrev pub IsGiveFault : Donating → Ask → GiveFault → Type 0

@@ -1,6 +1,5 @@
 -- How a donor and a joiner stand for the histories of the group.
-use Rattle.std.specs.Prelude.{◌≡◌, ℕ, List}
-use Rattle.gtid_sets.specs.Sets.{Gtids}
+use Rattle.std.specs.Prelude.{◌≡◌, ℕ}
 use Rattle.group_rules.specs.View.{seated, online_incs}
 use Rattle.group_rules.specs.Events.{Life, Setup}
 use Rattle.group_rules.specs.Life.{executed, has_give, view}

@@ -1,6 +1,7 @@
 // Copies of lists.
 ghost use Rattle.std.specs.Prelude.{◌≡◌, IfOk};
 
+use crate::at_add::AtAdd;
 use gr_ids::{LastNumber, Memory, OpenParts, Sequence};
 use gtid_sets::ToldSet;
 use key_items::KeptItem;
@@ -56,6 +57,19 @@ impl TryCopy for Given {
             origin: self.origin,
             gtid: self.gtid,
             body: self.body.try_copy(alloc)?,
+        })
+    }
+}
+
+impl TryCopy for AtAdd {
+    fn try_copy(&self, alloc: Global) -> Result<Self, Memory> {
+        Ok(AtAdd {
+            place: self.place,
+            blocks: self.blocks,
+            last: copied(alloc, self.last.as_slice())?,
+            items: copied(alloc, self.items.as_slice())?,
+            told: copied(alloc, self.told.as_slice())?,
+            parts: copied(alloc, self.parts.as_slice())?,
         })
     }
 }

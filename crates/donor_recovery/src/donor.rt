@@ -3,10 +3,11 @@ ghost use Rattle.std.specs.Prelude.{◌≡◌, ◌∷◌, [], ◌++◌, filter, 
 ghost use Rattle.std.specs.List.{All};
 ghost use Rattle.gr_ids.specs.declared.memory.Memory.{Memory};
 ghost use Rattle.gtid_sets.specs.Sets.{has};
-ghost use Rattle.donor_recovery.specs.Donating.{HasNumber, IsGiveFault, at_place, give_from, gtids_given, is_by, marked, no_adds};
+ghost use Rattle.donor_recovery.specs.declared.donor.GiveFault.TheVariants.{Memory as NoRoom};
+ghost use Rattle.donor_recovery.specs.Donating.{HasNumber, IsGiveFault, at_place, give_from, give_made, gtids_given, is_by as is_by_place, marked, no_adds};
 
 use crate::at_add::AtAdd;
-use crate::copying::{TryCopy, copied};
+use crate::copying::TryCopy;
 use gr_ids::{Memory, Pos, Sequence};
 use gtid_sets::GtidSet;
 use paxos_forms::{Ask, Give, Given};
@@ -48,9 +49,7 @@ pub enum GiveFault {
 }
 
 impl From<Memory> for GiveFault {
-    ghost use Rattle.donor_recovery.specs.declared.donor.GiveFault.TheVariants.{Memory as NoRoom};
-
-    ghost from_gives = { λ m. NoRoom };
+    ghost from_gives = { λ _ e. e ≡ NoRoom };
 
     fn from(_: Memory) -> Self {
         GiveFault::Memory
@@ -73,7 +72,7 @@ impl Donor {
         ensures ok { OnOk result (self.new ≡ marked at self.old) }
         ensures err { OnErr result (self.new ≡ self.old) }
     {
-        self.adds.insert(at.place.0, at)?;
+        self.adds.insert(key_of(at.place), at)?;
         Ok(())
     }
 
@@ -90,36 +89,54 @@ impl Donor {
     /// What a joiner is given: what stood at the place of its Add, and the certified transactions at or before it that its set lacks.
     /// Refused exactly where no data of that place is kept. Linear in what is certified and in what is given.
     pub fn give(&self, alloc: Global, ask: &Ask) -> Result<Give, GiveFault>
-        ensures ok { IfOk result (λ give. IsSomeAnd (at_place self.now.adds ask.now.place) (λ at. give ≡ give_from at (filter (is_by ask.now.place) self.now.certified) ask.now.executed)) }
+        ensures ok { IfOk result (λ give. IsSomeAnd (at_place self.now.adds ask.now.place) (λ at. give ≡ give_from at (filter (is_by_place ask.now.place) self.now.certified) ask.now.executed)) }
         ensures err { IfErr result (IsGiveFault self.now ask.now) }
     {
-        let Some(at) = self.adds.get(&ask.place.0) else {
+        let Some(at) = self.adds.get(&key_of(ask.place)) else {
             return Err(GiveFault::NotKept { place: ask.place });
         };
-        Ok(Give {
-            place: ask.place,
-            blocks: at.blocks,
-            last: copied(alloc, at.last.as_slice())?,
-            items: copied(alloc, at.items.as_slice())?,
-            told: copied(alloc, at.told.as_slice())?,
-            certified: certified_by(alloc, &self.certified, ask.place)?,
-            txns: lacking(alloc, &self.certified, ask.place, &ask.executed)?,
-            parts: copied(alloc, at.parts.as_slice())?,
-        })
+        let at = at.try_copy(alloc)?;
+        let certified = certified_by(alloc, &self.certified, ask.place)?;
+        let txns = lacking(alloc, &self.certified, ask.place, &ask.executed)?;
+        Ok(give_with(ask.place, at, certified, txns))
     }
+}
+
+// What stood at the place, with what is certified and what is lacking.
+fn give_with(place: Pos, at: AtAdd, certified: GtidSet, txns: Sequence<Given>) -> Give
+    ensures { result ≡ give_made place at certified txns }
+{
+    Give {
+        place,
+        blocks: at.blocks,
+        last: at.last,
+        items: at.items,
+        told: at.told,
+        certified,
+        txns,
+        parts: at.parts,
+    }
+}
+
+// The key of a place in a map.
+fn key_of(place: Pos) -> u64
+    ensures { result ≡ place }
+{
+    place.0
 }
 
 // The GTIDs of the transactions certified at or before the place.
 fn certified_by(alloc: Global, certified: &[Given], place: Pos) -> Result<GtidSet, Memory>
     requires { All HasNumber certified.now }
-    ensures { IfOk result (λ set. set ≡ gtids_given (filter (is_by place) certified.now)) }
+    ensures { IfOk result (λ set. set ≡ gtids_given (filter (is_by_place place) certified.now)) }
 {
     let mut set = GtidSet::new(alloc);
     let mut at = certified.len();
     while at > 0 {
         at -= 1;
-        if certified[at].place.0 <= place.0 {
-            set.add(certified[at].gtid)?;
+        let given = &certified[at];
+        if is_by(given, place) {
+            set.add(given.gtid)?;
         }
     }
     Ok(set)
@@ -132,13 +149,20 @@ fn lacking(
     place: Pos,
     executed: &GtidSet,
 ) -> Result<Sequence<Given>, Memory>
-    ensures { IfOk result (λ txns. txns ≡ filter (λ g. not (has executed.now g.gtid)) (filter (is_by place) certified.now)) }
+    ensures { IfOk result (λ txns. txns ≡ filter (λ g. not (has executed.now g.gtid)) (filter (is_by_place place) certified.now)) }
 {
     let mut txns = Vec::new(alloc);
     for given in certified {
-        if given.place.0 <= place.0 && !executed.contains(given.gtid) {
+        if is_by(given, place) && !executed.contains(given.gtid) {
             txns.push(given.try_copy(alloc)?)?;
         }
     }
     Ok(Sequence::from_vec(txns))
+}
+
+// Whether the transaction is certified at or before the place.
+fn is_by(given: &Given, place: Pos) -> bool
+    ensures { result ≡ is_by_place place given.now }
+{
+    given.place.0 <= place.0
 }

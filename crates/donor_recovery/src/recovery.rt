@@ -1,5 +1,7 @@
 // How a joiner asks, and what it begins with.
 ghost use Rattle.std.specs.Prelude.{◌≡◌, ◌↔◌, [], false, Err, if◌then◌else◌, IfErr, IfOk, IsSome, is_some, None, OnErr, OnOk, true};
+ghost use Rattle.donor_recovery.specs.declared.recovery.AskFault.TheVariants.{Memory as NoRoomToAsk};
+ghost use Rattle.donor_recovery.specs.declared.recovery.TakeFault.TheVariants.{Memory as NoRoomToTake};
 ghost use Rattle.donor_recovery.specs.Asking.{IsAskFault, IsTakeFault, ask_of, asks, begin_of, extra, fails, is_due, is_last, not_asked, with_give};
 
 use crate::at_add::{AtAdd, Begin};
@@ -25,9 +27,7 @@ pub enum AskFault {
 }
 
 impl From<Memory> for AskFault {
-    ghost use Rattle.donor_recovery.specs.declared.recovery.AskFault.TheVariants.{Memory as NoRoom};
-
-    ghost from_gives = { λ m. NoRoom };
+    ghost from_gives = { λ _ e. e ≡ NoRoomToAsk };
 
     fn from(_: Memory) -> Self {
         AskFault::Memory
@@ -57,9 +57,7 @@ pub enum TakeFault {
 }
 
 impl From<Memory> for TakeFault {
-    ghost use Rattle.donor_recovery.specs.declared.recovery.TakeFault.TheVariants.{Memory as NoRoom};
-
-    ghost from_gives = { λ m. NoRoom };
+    ghost from_gives = { λ _ e. e ≡ NoRoomToTake };
 
     fn from(_: Memory) -> Self {
         TakeFault::Memory

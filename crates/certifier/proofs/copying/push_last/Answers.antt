@@ -1,5 +1,5 @@
 -- The number is put behind the others, where there is one.
-use Rattle.std.proofs.Common.{◌≡◌, map, sym, ◌∙◌}
+use Rattle.std.proofs.Common.{map, sym, ◌∙◌}
 use Rattle.std.proofs.lemmas.List.{append-nil}
 use Rattle.certifier.specs.Inside.{last_in}
 use Rattle.certifier.proofs.LastMaps.{reads, has_number, has_none}

@@ -1,7 +1,4 @@
 -- What is left, put in one after another, gives the whole.
-use Rattle.std.proofs.Common.{◌≡◌, map}
-use Rattle.std.specs.BTreeMap.{IsOrdered}
-use Rattle.certifier.specs.Inside.{item_cmp}
 use Rattle.certifier.proofs.KeptLists.{Filling}
 use Rattle.certifier.proofs.copying.writers_by_item.Given as goal
 

@@ -1,5 +1,5 @@
 -- By the transaction's own items, the writer is that of all that are kept.
-use Rattle.std.proofs.Common.{◌≡◌, [], ap, sym, subst, ◌∙◌}
+use Rattle.std.proofs.Common.{ap, sym, ◌∙◌}
 use Rattle.std.proofs.lemmas.List.{drop_all}
 use Rattle.certifier.specs.Blockers.{later_writer}
 use Rattle.certifier.proofs.Blocking.{best, blocker_is, later_none}

@@ -1,5 +1,5 @@
 -- What retain leaves is the filtered list.
-use Rattle.std.proofs.Common.{◌≡◌, not, map, ap, ◌∙◌, rules}
+use Rattle.std.proofs.Common.{not, map, ap, ◌∙◌, rules}
 use Rattle.std.proofs.lemmas.Map.Made.{filter_same_pairs}
 use Rattle.gtid_sets.specs.Sets.{has}
 use Rattle.key_items.specs.declared.item.Item.{Item}

@@ -1,10 +1,10 @@
 -- The transaction is the last writer of its items; where memory is refused, all is as it was.
-use Rattle.std.proofs.Common.{◌≡◌, ℕ, ◌+◌, ◌*◌, ◌≤◌, Bool, true, false, Some, Option, map, refl, sym, ap, subst, ◌∙◌, arith}
+use Rattle.std.proofs.Common.{◌≡◌, ℕ, ◌+◌, ◌*◌, ◌≤◌, true, false, Option, map, refl, sym, ap, subst, ◌∙◌, arith}
 use Rattle.std.specs.Prelude.{IfSome}
 use Rattle.std.specs.Result.{is_err}
 use Rattle.group_rules.specs.Certifier.{blocker, last_of, next_gtid, number_after, opens_block, written_by}
 use Rattle.certifier.specs.Certifying.{Certifying, limits_of}
-use Rattle.certifier.specs.Inside.{IsSound, certifying_in, kept_in, last_in}
+use Rattle.certifier.specs.Inside.{certifying_in, kept_in, last_in}
 use Rattle.certifier.proofs.LastMaps.{inserted, reads}
 use Rattle.certifier.proofs.Positive.{in_blocks, in_next_block, made_positive, no_blocker, sound_with, undone, wider}
 use Rattle.certifier.proofs.Results.{on_err, on_ok}
@@ -15,7 +15,7 @@ invariant_of-self-then-is_err c =
     let yes : is_err c.write_items.result ≡ true = sym c.is_err.ensures.value ∙ c.if-is_err.true in
     let items = on_err c.write_items.result yes c.write_items.ensures.err in
     let last = undone c.args.origin c.self.inside.last c.insert.new.self c.put_back.new.map c.next_gtid-gtid.result.number c.in_ok-before.before c.in_ok-before.ensures.old c.in_ok-before.ensures.updates
-        c.put_back.ensures.back c.in_ok-before.ensures.was_ordered c.put_back.ensures.ordered in
+    c.put_back.ensures.back c.in_ok-before.ensures.was_ordered c.put_back.ensures.ordered in
     rw (last, items) c.self.invariant
 
 pub returns-then-is_err-clause-err : goal.returns-then-is_err-clause-err
@@ -23,7 +23,7 @@ returns-then-is_err-clause-err c =
     let yes : is_err c.write_items.result ≡ true = sym c.is_err.ensures.value ∙ c.if-is_err.true in
     let items = on_err c.write_items.result yes c.write_items.ensures.err in
     let last = undone c.args.origin c.self.inside.last c.insert.new.self c.put_back.new.map c.next_gtid-gtid.result.number c.in_ok-before.before c.in_ok-before.ensures.old c.in_ok-before.ensures.updates
-        c.put_back.ensures.back c.in_ok-before.ensures.was_ordered c.put_back.ensures.ordered in
+    c.put_back.ensures.back c.in_ok-before.ensures.was_ordered c.put_back.ensures.ordered in
     rw (← c.self.view_is, last, items) refl
 
 pub invariant_of-self-then-opens_block : goal.invariant_of-self-then-opens_block

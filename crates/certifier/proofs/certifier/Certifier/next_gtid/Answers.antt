@@ -1,5 +1,5 @@
 -- The number of the origin's last positive transaction is that of its entry.
-use Rattle.std.proofs.Common.{◌≡◌, ℕ, ◌≤◌, ◌*◌, Option, Some, ap, sym, subst, ◌∙◌}
+use Rattle.std.proofs.Common.{ℕ, ◌≤◌, ◌*◌, Option, ap, sym, subst, ◌∙◌}
 use Rattle.std.specs.Prelude.{IfSome}
 use Rattle.gr_ids.specs.declared.names.Gtid.{Gtid}
 use Rattle.group_rules.specs.Certifier.{number_after}

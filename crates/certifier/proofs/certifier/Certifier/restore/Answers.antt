@@ -1,5 +1,5 @@
 -- What a donor told is sound.
-use Rattle.std.proofs.Common.{◌≡◌, ◌*◌, ap, ◌∙◌}
+use Rattle.std.proofs.Common.{◌*◌, ap, ◌∙◌}
 use Rattle.certifier.specs.Certifying.{numbers_told}
 use Rattle.certifier.proofs.Bounds.{told_below}
 use Rattle.certifier.proofs.certifier.Certifier.restore.Goals as goal
