@@ -1,9 +1,12 @@
-use crate::{AskFault, AtAdd, Donor, GiveFault, Recovery, RecoveryFault, TakeFault};
+ghost use Rattle.std.specs.Prelude.{◌≡◌};
+
+use crate::{AskFault, AtAdd, Begin, Donor, GiveFault, Recovery, RecoveryFault, TakeFault};
 use gr_ids::{Blob, Gtid, Inc, Pos, Sequence};
 use gtid_sets::GtidSet;
 use key_items::{Item, KeptItem};
 use paxos_forms::{Ask, Given};
 use std::alloc::Global;
+use std::process::Abort;
 use std::test::Fail;
 
 const SOURCE: [u8; 16] = [0xaa; 16];
@@ -47,7 +50,9 @@ fn at_add(alloc: Global, place: u64, blocks: u64) -> Result<AtAdd, Fail> {
     })
 }
 
-fn given(alloc: Global, place: u64, number: u64) -> Given {
+fn given(alloc: Global, place: u64, number: u64) -> Given
+    ensures { result.gtid.number ≡ number }
+{
     Given {
         place: Pos(place),
         origin: first_start(1),
@@ -80,6 +85,20 @@ struct Case {
     lacking: usize,
 }
 
+fn try_give(rt: &impl Abort, alloc: Global, donor: &Donor, case: &Case) -> Result<(), Fail> {
+    let ask = Ask {
+        place: Pos(case.place),
+        executed: set(alloc, case.executed)?,
+    };
+    let give = donor.give(alloc, &ask)?;
+    assert!(rt; give.place == Pos(case.place) && give.blocks == case.blocks);
+    let certified = give.certified.write_text(alloc)?;
+    assert_eq!(rt; certified.as_slice(), case.certified);
+    assert_eq!(rt; give.txns.as_slice().len(), case.lacking);
+    assert_eq!(rt; give.items.as_slice().len(), 1);
+    Ok(())
+}
+
 #[test]
 fn a_give_is_that_of_the_add(rt: HostRuntime) -> Result<(), Fail> {
     let alloc = rt.alloc();
@@ -108,25 +127,14 @@ fn a_give_is_that_of_the_add(rt: HostRuntime) -> Result<(), Fail> {
         },
     ];
     for case in cases.iter() {
-        let ask = Ask {
-            place: Pos(case.place),
-            executed: set(alloc, case.executed)?,
-        };
-        let give = donor.give(alloc, &ask)?;
-        assert!(rt; give.place == Pos(case.place) && give.blocks == case.blocks);
-        let certified = give.certified.write_text(alloc)?;
-        assert_eq!(rt; certified.as_slice(), case.certified);
-        assert_eq!(rt; give.txns.as_slice().len(), case.lacking);
-        assert_eq!(rt; give.items.as_slice().len(), 1);
+        try_give(&rt, alloc, &donor, case)?;
     }
     let ask = Ask {
         place: Pos(3),
         executed: set(alloc, NONE)?,
     };
-    match donor.give(alloc, &ask) {
-        Ok(_) => assert!(rt; false, "no Add is taken at place 3"),
-        Err(fault) => assert!(rt; fault == GiveFault::NotKept { place: Pos(3) }),
-    }
+    let fault = donor.give(alloc, &ask).err();
+    assert!(rt; fault == Some(GiveFault::NotKept { place: Pos(3) }));
     Ok(())
 }
 
@@ -145,10 +153,8 @@ fn the_tenth_failed_ask_is_the_last(rt: HostRuntime) -> Result<(), Fail> {
         };
         assert!(rt; recovery.failed() == wanted && recovery.pending().is_none());
     }
-    match recovery.ask(alloc, first_start(2)) {
-        Ok(_) => assert!(rt; false, "ten asks have failed"),
-        Err(fault) => assert!(rt; fault == AskFault::NoAskDue),
-    }
+    let fault = recovery.ask(alloc, first_start(2)).err();
+    assert!(rt; fault == Some(AskFault::NoAskDue));
     Ok(())
 }
 
@@ -167,6 +173,13 @@ fn a_joiner_begins_with_what_it_is_given(rt: HostRuntime) -> Result<(), Fail> {
     Ok(())
 }
 
+fn extra_of(taken: Result<Begin, TakeFault>) -> Option<GtidSet> {
+    match taken {
+        Err(TakeFault::ExtraTransactions(extra)) => Some(extra),
+        _ => None,
+    }
+}
+
 #[test]
 fn a_joiner_may_have_no_more_than_the_group(rt: HostRuntime) -> Result<(), Fail> {
     let alloc = rt.alloc();
@@ -175,13 +188,9 @@ fn a_joiner_may_have_no_more_than_the_group(rt: HostRuntime) -> Result<(), Fail>
     let ask = recovery.ask(alloc, first_start(1))?;
     let give = donor.give(alloc, &ask)?;
     assert!(rt; recovery.pending().is_some() && give.place == Pos(2));
-    match recovery.take(alloc, give) {
-        Err(TakeFault::ExtraTransactions(extra)) => {
-            let extra = extra.write_text(alloc)?;
-            assert_eq!(rt; extra.as_slice(), SECOND);
-        }
-        _ => assert!(rt; false, "the joiner has a transaction of its own"),
-    }
+    let extra = extra_of(recovery.take(alloc, give)).ok_or("taken")?;
+    let extra = extra.write_text(alloc)?;
+    assert_eq!(rt; extra.as_slice(), SECOND);
     assert!(rt; recovery.pending() == Some(first_start(1)));
     Ok(())
 }
