@@ -1,7 +1,8 @@
 -- No last number is above those of the blocks taken.
 use Rattle.std.proofs.Common.{◌≡◌, ℕ, ◌≤◌, Bool, true, false, Option, List, [], ◌∷◌, map, refl, sym, ap, subst, ◌∙◌}
-use Rattle.std.specs.Prelude.{fold, IfSome}
-use Rattle.std.specs.List.{AllByRecursion}
+use Rattle.std.specs.Prelude.{fold, IfSome, nat_le}
+use Rattle.std.specs.List.{AllByRecursion, list_all}
+use Rattle.std.proofs.lemmas.Bool.{and_parts, leb-true}
 use Rattle.std.specs.Map.{lookup}
 use Rattle.std.specs.BTreeMap.{is_at}
 use Rattle.gr_ids.specs.declared.names.Inc.{Inc}
@@ -36,5 +37,9 @@ of_all n (x ∷ xs) i h = go (inc_eq x.inc i) refl (of_all n xs i h.1)
     go true e r = rw (e, last_of) (h.0)
     go false e r = rw (e, last_of) r
 
-pub told_below : (n : ℕ) (xs : List LastNumber) (es : List (Inc × ℕ)) → AreBelow n xs → map last_in es ≡ numbers_told xs → (i : Inc) → IfSome (lookup (is_at (inc_cmp i)) es) (λ m. m ≤ n)
-told_below n xs es h e i = subst (λ (o : Option ℕ). IfSome o (λ m. m ≤ n)) (ap (λ ys. last_of ys i) (sym e) ∙ reads es i) (of_all n (numbers_told xs) i (with_all n [] xs tt h))
+each_below : (n : ℕ) (xs : List LastNumber) → list_all (λ (x : LastNumber). nat_le x.number n) xs ≡ true → AreBelow n xs
+each_below n [] h = tt
+each_below n (x ∷ xs) h = let p = and_parts (nat_le x.number n) (list_all (λ (x : LastNumber). nat_le x.number n) xs) h in (leb-true x.number n p.0, each_below n xs p.1)
+
+pub told_below : (n : ℕ) (xs : List LastNumber) (es : List (Inc × ℕ)) → list_all (λ (x : LastNumber). nat_le x.number n) xs ≡ true → map last_in es ≡ numbers_told xs → (i : Inc) → IfSome (lookup (is_at (inc_cmp i)) es) (λ m. m ≤ n)
+told_below n xs es h e i = subst (λ (o : Option ℕ). IfSome o (λ m. m ≤ n)) (ap (λ ys. last_of ys i) (sym e) ∙ reads es i) (of_all n (numbers_told xs) i (with_all n [] xs tt (each_below n xs h)))

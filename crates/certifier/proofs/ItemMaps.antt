@@ -10,7 +10,7 @@ use Rattle.key_items.specs.declared.item.Item.{Item}
 use Rattle.key_items.specs.Items.{item_eq, item_lt}
 use Rattle.key_items.proofs.Order.{item_lt_cmp, item_eq_cmp, item_eq_same}
 use Rattle.group_rules.specs.Certifier.{with_kept}
-use Rattle.certifier.specs.declared.kept.Writer.{Writer}
+use Rattle.certifier.specs.declared.writer.Writer.{Writer}
 use Rattle.certifier.specs.Inside.{item_cmp, kept_in}
 
 abbrev pub Entries : Type 0

@@ -1,23 +1,22 @@
 -- An ascending list of kept items put into a map.
 use Rattle.std.proofs.Common.{◌≡◌, true, List, [], ◌∷◌, ◌++◌, map, length, arith, append_assoc, refl, sym, ap, ◌∙◌}
 use Rattle.std.specs.Prelude.{fold}
-use Rattle.std.specs.BTreeMap.{BTreeMap, IsOrdered, insert_entry}
+use Rattle.std.specs.BTreeMap.{insert_entry}
 use Rattle.std.proofs.lemmas.Bool.{and_parts}
 use Rattle.key_items.specs.declared.item.Item.{Item}
 use Rattle.key_items.specs.declared.item.KeptItem.{KeptItem}
 use Rattle.key_items.specs.Items.{item_lt, ascend}
 use Rattle.key_items.proofs.Order.{Stands, Below, Same, Above, stands, item_lt_trans}
 use Rattle.group_rules.specs.Certifier.{with_kept}
-use Rattle.certifier.specs.declared.kept.Writer.{Writer}
+use Rattle.certifier.specs.declared.writer.Writer.{Writer}
 use Rattle.certifier.specs.Blockers.{writer_of}
 use Rattle.certifier.specs.Certifying.{item_of}
 use Rattle.certifier.specs.Inside.{item_cmp, kept_in}
 use Rattle.certifier.proofs.ItemMaps.{inserted}
 
 -- what is left, put in one after another, gives all that there was
-pub record Filling (all : List KeptItem) (items : BTreeMap Item Writer) (left : List KeptItem) : Type 0 where
-  pub whole : fold with_kept (map kept_in items.entries) left ≡ fold with_kept [] all
-  pub ordered : IsOrdered item_cmp items
+abbrev pub Filling : List KeptItem → List (Item × Writer) → List KeptItem → Type 0
+Filling all es left = fold with_kept (map kept_in es) left ≡ fold with_kept [] all
 
 -- all of the list are below the item
 abbrev AreBelow : List KeptItem → Item → Type 0
@@ -55,15 +54,13 @@ filled_up [] a = refl
 filled_up (k ∷ ks) a = filled ks [] k tt a
 
 -- one item more is put in
-pub filling_next : (all : List KeptItem) (m n : BTreeMap Item Writer) (left rest : List KeptItem) (k : KeptItem) → Filling all m left → left ≡ k ∷ rest
-    → n.entries ≡ insert_entry item_cmp m.entries k.item (writer_of k) → IsOrdered item_cmp n → Filling all n rest
-filling_next all m n left rest k f l e o = record {
-  whole = ap (λ ks. fold with_kept ks rest) (ap (map kept_in) e ∙ inserted m.entries k.item (writer_of k)) ∙ (ap (fold with_kept (map kept_in m.entries)) (sym l) ∙ f.whole);
-  ordered = o;
-}
+pub filling_next : (all : List KeptItem) (es fs : List (Item × Writer)) (left rest : List KeptItem) (k : KeptItem) → Filling all es left → left ≡ k ∷ rest
+    → fs ≡ insert_entry item_cmp es k.item (writer_of k) → Filling all fs rest
+filling_next all es fs left rest k f l e =
+    ap (λ ks. fold with_kept ks rest) (ap (map kept_in) e ∙ inserted es k.item (writer_of k)) ∙ (ap (fold with_kept (map kept_in es)) (sym l) ∙ f)
 
-pub filling_end : (all : List KeptItem) (m : BTreeMap Item Writer) (left : List KeptItem) → ascend (map item_of all) ≡ true → left ≡ [] → Filling all m left → map kept_in m.entries ≡ all
-filling_end all m left a l f = ap (fold with_kept (map kept_in m.entries)) (sym l) ∙ (f.whole ∙ filled_up all a)
+pub filling_end : (all : List KeptItem) (es : List (Item × Writer)) (left : List KeptItem) → ascend (map item_of all) ≡ true → left ≡ [] → Filling all es left → map kept_in es ≡ all
+filling_end all es left a l f = ap (fold with_kept (map kept_in es)) (sym l) ∙ (f ∙ filled_up all a)
 
 pub no_items : (ks : List KeptItem) → length ks ≡ 0 → ks ≡ []
 no_items [] e = refl

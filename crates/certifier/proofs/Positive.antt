@@ -15,7 +15,7 @@ use Rattle.key_items.specs.declared.item.Item.{Item}
 use Rattle.key_items.specs.declared.item.KeptItem.{KeptItem}
 use Rattle.txn_forms.specs.declared.body.Txn.{Txn}
 use Rattle.group_rules.specs.Certifier.{blocker, next_gtid, number_after, opens_block, with_last, written_by}
-use Rattle.certifier.specs.declared.kept.Writer.{Writer}
+use Rattle.certifier.specs.declared.writer.Writer.{Writer}
 use Rattle.certifier.specs.Blockers.{writer_of}
 use Rattle.certifier.specs.Certifying.{Certifying, limits_of, with_txn}
 use Rattle.certifier.specs.Inside.{IsSound, inc_cmp, item_cmp}
@@ -78,10 +78,10 @@ in_next_block b q o l h = go o h
 
 -- ---- what is sound stays so
 
-pub sound_with : (b q p : ℕ) (es fs : List (Inc × ℕ)) (is js : List (Item × Writer)) (m : Inc) (n : ℕ) → IsSound b q es is
+pub sound_with : (b q p : ℕ) (es fs : List (Inc × ℕ)) (m : Inc) (n : ℕ) → IsSound b q es
     → ((i : Inc) → lookup (is_at (inc_cmp i)) fs ≡ cond (is_at (inc_cmp m) i) (Some n) (lookup (is_at (inc_cmp i)) es))
-    → n ≤ p * b → q * b ≤ p * b → IsStrictlySortedBy item_cmp (keys_of js) → IsSound b p fs js
-sound_with b q p es fs is js m n s put l k o = record { least = s.least; most = s.most; numbers = numbers; ordered = o }
+    → n ≤ p * b → q * b ≤ p * b → IsSound b p fs
+sound_with b q p es fs m n s put l k = record { least = s.least; most = s.most; numbers = numbers }
   where
     with_more : (o : Option ℕ) → IfSome o (λ n. n ≤ q * b) → IfSome o (λ n. n ≤ p * b)
     with_more None h = tt

@@ -11,7 +11,7 @@ use Rattle.std.proofs.lemmas.List.{drop_all}
 use Rattle.key_items.specs.declared.item.Item.{Item}
 use Rattle.key_items.specs.Items.{item_eq, has_item}
 use Rattle.key_items.proofs.Order.{item_cmp_total, item_eq_cmp, item_eq_same, item_eq_itself}
-use Rattle.certifier.specs.declared.kept.Writer.{Writer}
+use Rattle.certifier.specs.declared.writer.Writer.{Writer}
 use Rattle.certifier.specs.Inside.{AreThere, item_cmp}
 
 abbrev pub Entries : Type 0

@@ -10,7 +10,7 @@ use Rattle.std.specs.BTreeMap.{BTreeMap, IsOrdered, insert_entry}
 use Rattle.key_items.specs.declared.item.Item.{Item}
 use Rattle.key_items.specs.Items.{item_eq, has_item}
 use Rattle.group_rules.specs.Certifier.{written_by}
-use Rattle.certifier.specs.declared.kept.Writer.{Writer}
+use Rattle.certifier.specs.declared.writer.Writer.{Writer}
 use Rattle.certifier.specs.Inside.{AreThere, item_cmp, kept_in}
 use Rattle.certifier.proofs.ItemMaps.{inserted}
 use Rattle.key_items.proofs.Order.{item_cmp_total, item_eq_cmp, item_eq_same}
@@ -25,7 +25,7 @@ pub record Writing (w : Writer) (written : List Item) (es : Entries) (n : ℕ) (
 pub writing_begun : (w : Writer) (written : List Item) (es : Entries) → IsStrictlySortedBy item_cmp (keys_of es) → Writing w written es 0 es
 writing_begun w written es o = record { whole = refl; so_far = λ q. refl; ordered = o }
 
-has_last : (xs : List Item) (x q : Item) → has_item (xs ++ x ∷ []) q ≡ (item_eq q x || has_item xs q)
+pub has_last : (xs : List Item) (x q : Item) → has_item (xs ++ x ∷ []) q ≡ (item_eq q x || has_item xs q)
 has_last [] x q = refl
 has_last (y ∷ ys) x q = ap (λ b. item_eq q y || b) (has_last ys x q) ∙ swapped (item_eq q y) (item_eq q x) (has_item ys q)
   where

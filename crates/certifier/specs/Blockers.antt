@@ -2,7 +2,7 @@
 use Rattle.std.specs.Prelude.{Option, Some, None, if◌then◌else◌, nat_lt}
 use Rattle.gtid_sets.specs.Sets.{Gtids, has}
 use Rattle.key_items.specs.declared.item.KeptItem.{KeptItem}
-use Rattle.certifier.specs.declared.kept.Writer.{Writer}
+use Rattle.certifier.specs.declared.writer.Writer.{Writer}
 
 abbrev pub writer_of : KeptItem → Writer
 writer_of k = record { gtid = k.gtid; place = k.place }

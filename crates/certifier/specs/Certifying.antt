@@ -1,6 +1,6 @@
 -- A certifier with the settings of its group. What is kept and what an entry changes there stands in the rules of the group.
-use Rattle.std.specs.Prelude.{ℕ, ◌≤◌, ◌*◌, Some, List, [], fold, map}
-use Rattle.std.specs.List.{AllByRecursion}
+use Rattle.std.specs.Prelude.{ℕ, ◌*◌, IsTrue, nat_le, Some, List, fold, map}
+use Rattle.std.specs.List.{list_all}
 use Rattle.gr_ids.specs.declared.names.Inc.{Inc}
 use Rattle.gr_ids.specs.declared.names.LastNumber.{LastNumber}
 use Rattle.gr_ids.specs.declared.limits.Limits.{Limits}
@@ -49,7 +49,7 @@ without_stable s c = record c { certified = forget s c.certified }
 
 -- no number is above those of the blocks taken
 abbrev pub AreOfBlocks : ℕ → ℕ → List LastNumber → Type 0
-AreOfBlocks block blocks last = AllByRecursion (λ x. x.number ≤ blocks * block) last
+AreOfBlocks block blocks last = IsTrue (list_all (λ (x : LastNumber). nat_le x.number (blocks * block)) last)
 
 abbrev pub item_of : KeptItem → Item
 item_of k = k.item

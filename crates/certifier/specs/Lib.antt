@@ -1,3 +1,4 @@
 pub mod Certifying
 pub mod Inside
 pub mod Blockers
+pub mod Forgetting

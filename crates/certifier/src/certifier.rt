@@ -2,17 +2,18 @@
 ghost use Rattle.std.specs.Prelude.{◌≡◌, ◌<◌, ◌≤◌, ◌^◌, IfOk, map, OnErr, OnOk};
 ghost use Rattle.std.specs.Map.Iter.{ShowsInOrder, deref_pair};
 ghost use Rattle.key_items.specs.declared.item.Item.{Item as AnyItem};
-ghost use Rattle.certifier.specs.declared.kept.Writer.{Writer as AnyWriter};
+ghost use Rattle.certifier.specs.declared.writer.Writer.{Writer as AnyWriter};
 ghost use Rattle.gr_ids.specs.declared.memory.Memory.{Memory};
 ghost use Rattle.group_rules.specs.Certifier.{next_gtid, numbers_of};
 ghost use Rattle.certifier.specs.Certifying.{AreOfBlocks, ItemsAscend, effect_of, limits_of, nothing_certified, restored_as, verdict_on, with_txn, without_stable};
 ghost use Rattle.certifier.specs.Inside.{kept_in};
 
-use crate::copying::{copied_items, copied_last, last_by_origin, writers_by_item};
-use crate::kept::{Writer, blocker, drop_written};
+use crate::copying::{copied_last, last_by_origin};
+use crate::kept::KeptItems;
 use crate::numbers::{number_after, opens_block};
 use crate::verdict::Verdict;
-use crate::writing::{put_back, write_items};
+use crate::writer::Writer;
+use crate::writing::put_back;
 use gr_ids::{Gtid, Inc, LastNumber, Memory, Pos, Sequence};
 use gtid_sets::GtidSet;
 use key_items::{Item, KeptItem};
@@ -30,7 +31,7 @@ pub struct Certifier {
     block: u32,
     blocks: u64,
     last: BTreeMap<Inc, u64>,
-    items: BTreeMap<Item, Writer>,
+    kept: KeptItems,
 }
 
 impl Model for Certifier {
@@ -39,9 +40,9 @@ impl Model for Certifier {
 
     ghost Value = { Certifying };
 
-    ghost view = { λ c. certifying_in c.group c.block c.blocks c.last.entries c.items.entries };
+    ghost view = { λ c. certifying_in c.group c.block c.blocks c.last.entries c.kept };
 
-    ghost invariant = { λ c. IsSound c.block c.blocks c.last.entries c.items.entries };
+    ghost invariant = { λ c. IsSound c.block c.blocks c.last.entries };
 }
 
 impl Certifier {
@@ -56,7 +57,7 @@ impl Certifier {
             block,
             blocks: 0,
             last: BTreeMap::new(alloc),
-            items: BTreeMap::new(alloc),
+            kept: KeptItems::new(alloc),
         }
     }
 
@@ -80,7 +81,7 @@ impl Certifier {
             block,
             blocks,
             last: last_by_origin(alloc, last.as_slice())?,
-            items: writers_by_item(alloc, items)?,
+            kept: KeptItems::of(alloc, items)?,
         })
     }
 
@@ -98,13 +99,13 @@ impl Certifier {
         ensures ok { OnOk result (self.new ≡ with_txn place origin txn.now self.old) }
         ensures err { OnErr result (self.new ≡ self.old) }
     {
-        if let Some(writer) = blocker(&self.items, txn) {
+        if let Some(writer) = self.kept.blocker(txn) {
             return Ok(Verdict::Conflict(writer.gtid));
         }
         let gtid = self.next_gtid(origin);
         let before = self.last.insert(origin, gtid.number)?;
         let writer = Writer { gtid, place };
-        if write_items(alloc, &mut self.items, txn.items.as_slice(), &writer).is_err() {
+        if self.kept.write(alloc, txn.items.as_slice(), &writer).is_err() {
             put_back(&mut self.last, &origin, before);
             return Err(Memory);
         }
@@ -126,11 +127,12 @@ impl Certifier {
         }
     }
 
-    /// Forgets the items whose last writer is in the set. Takes no memory.
+    /// Forgets the items whose last writer is in the set. Logarithmic in the items for each run of the set, and once for each item of the
+    /// writers that it covers; takes no memory.
     pub fn forget(&mut self, stable: &GtidSet)
         ensures { self.new ≡ without_stable stable.now self.old }
     {
-        drop_written(&mut self.items, stable);
+        self.kept.forget(stable);
     }
 
     /// How many blocks of numbers are taken.
@@ -145,7 +147,7 @@ impl Certifier {
         ensures rest { map kept_in result ≡ self.now.certified.items }
         ensures runs { ShowsInOrder (deref_pair {K = AnyItem} {X = AnyWriter}) }
     {
-        self.items.iter()
+        self.kept.iter()
     }
 
     /// The last number of each of these members that has one, in the order of these. Logarithmic in the origins, for each of these.
@@ -159,6 +161,6 @@ impl Certifier {
     pub fn copy_items(&self, alloc: Global) -> Result<Sequence<KeptItem>, Memory>
         ensures { IfOk result (λ items. items ≡ self.now.certified.items) }
     {
-        copied_items(alloc, &self.items)
+        self.kept.copies(alloc)
     }
 }

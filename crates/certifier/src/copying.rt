@@ -1,11 +1,10 @@
 // Copies of what is kept, and maps made of such copies.
 ghost use Rattle.std.specs.Prelude.{◌≡◌, ◌∷◌, [], ◌++◌, IfOk, map, OnOk};
-ghost use Rattle.std.specs.BTreeMap.{IsOrdered};
 ghost use Rattle.group_rules.specs.Certifier.{numbers_of};
-ghost use Rattle.certifier.specs.Certifying.{ItemsAscend, numbers_told};
-ghost use Rattle.certifier.specs.Inside.{inc_cmp, item_cmp, kept_in, last_in};
+ghost use Rattle.certifier.specs.Certifying.{numbers_told};
+ghost use Rattle.certifier.specs.Inside.{kept_in, last_in};
 
-use crate::kept::Writer;
+use crate::writer::Writer;
 use gr_ids::{Inc, LastNumber, Memory, Sequence};
 use key_items::{Item, KeptItem};
 use std::alloc::Global;
@@ -69,24 +68,4 @@ pub(crate) fn last_by_origin(
         last.insert(told.inc, told.number)?;
     }
     Ok(last)
-}
-
-/// The writers by item. Linear in the items, and logarithmic for each.
-pub(crate) fn writers_by_item(
-    alloc: Global,
-    kept: Sequence<KeptItem>,
-) -> Result<BTreeMap<Item, Writer>, Memory>
-    requires { ItemsAscend kept }
-    ensures kept { IfOk result (λ items. map kept_in items.entries ≡ kept) }
-    ensures ordered { IfOk result (IsOrdered item_cmp) }
-{
-    let mut items = BTreeMap::new(alloc);
-    for one in kept.into_vec() {
-        let writer = Writer {
-            gtid: one.gtid,
-            place: one.place,
-        };
-        items.insert(one.item, writer)?;
-    }
-    Ok(items)
 }

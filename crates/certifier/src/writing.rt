@@ -5,10 +5,10 @@ ghost use Rattle.std.specs.Ordering.{is_eq};
 ghost use Rattle.key_items.specs.declared.item.Item.{Item as AnyItem};
 ghost use Rattle.key_items.specs.Items.{has_item};
 ghost use Rattle.group_rules.specs.Certifier.{written_by};
-ghost use Rattle.certifier.specs.declared.kept.Writer.{Writer as AnyWriter};
+ghost use Rattle.certifier.specs.declared.writer.Writer.{Writer as AnyWriter};
 ghost use Rattle.certifier.specs.Inside.{AreThere, item_cmp, kept_in};
 
-use crate::kept::Writer;
+use crate::writer::Writer;
 use gr_ids::Memory;
 use key_items::Item;
 use std::alloc::Global;
@@ -24,6 +24,7 @@ pub(crate) fn write_items(
 ) -> Result<(), Memory>
     requires { IsOrdered item_cmp items.old }
     ensures ok { OnOk result (map kept_in items.new.entries ≡ written_by writer.now.place writer.now.gtid written.now (map kept_in items.old.entries)) }
+    ensures there { OnOk result ((i : AnyItem) → get item_cmp items.new i ≡ (if has_item written.now i then Some writer.now else get item_cmp items.old i)) }
     ensures err { OnErr result (items.new.entries ≡ items.old.entries) }
     ensures ordered { IsOrdered item_cmp items.new }
 {

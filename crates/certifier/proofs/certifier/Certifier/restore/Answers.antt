@@ -9,5 +9,4 @@ invariant_of-result c = record {
   least = c.requires.least;
   most = c.requires.most;
   numbers = told_below (c.args.blocks * c.args.block) c.args.last c.in_ok-last_by_origin.field-0.entries c.requires.of_blocks (c.in_ok-last_by_origin.ensures ∙ ap numbers_told c.as_slice.ensures);
-  ordered = c.in_ok-writers_by_item.ensures.ordered;
 }

@@ -17,7 +17,7 @@ use Rattle.key_items.specs.declared.item.KeptItem.{KeptItem}
 use Rattle.key_items.proofs.Order.{Stands, Below, Same, Above, stands, item_cmp_total, item_lt_cmp, item_eq_cmp, item_eq_same, item_lt_trans}
 use Rattle.txn_forms.specs.declared.body.Txn.{Txn}
 use Rattle.group_rules.specs.Certifier.{blocker, later_of}
-use Rattle.certifier.specs.declared.kept.Writer.{Writer}
+use Rattle.certifier.specs.declared.writer.Writer.{Writer}
 use Rattle.certifier.specs.Blockers.{later_writer, unseen, writer_of}
 use Rattle.certifier.specs.Inside.{item_cmp, kept_in}
 
@@ -73,10 +73,10 @@ apart : (i k : Item) → item_cmp i k ≡ Less → item_eq k i ≡ false
 apart i k e = item_eq_cmp k i ∙ ap is_eq (item_cmp_total.antisymm k i ∙ ap ordering_reverse e)
 
 -- all keys are above the item
-abbrev AreAbove : Item → Entries → Type 0
+abbrev pub AreAbove : Item → Entries → Type 0
 AreAbove i es = AllByRecursion (λ y. item_cmp i y ≡ Less) (keys_of es)
 
-more_above : (i j : Item) (es : Entries) → item_cmp i j ≡ Less → AreAbove j es → AreAbove i es
+pub more_above : (i j : Item) (es : Entries) → item_cmp i j ≡ Less → AreAbove j es → AreAbove i es
 more_above i j [] l h = tt
 more_above i j (e ∷ es) l h = (item_cmp_total.trans i j e.0 l h.0, more_above i j es l h.1)
 
@@ -88,7 +88,7 @@ same_among s i is (e ∷ es) h = go (has_item is e.0 && not (has s e.1.gtid)) re
     go true f a r = rw (a, f, among) (ap (later_writer (Some e.1)) r)
     go false f a r = rw (a, f, among) r
 
-not_there : (i : Item) (es : Entries) → AreAbove i es → lookup (is_at (item_cmp i)) es ≡ None
+pub not_there : (i : Item) (es : Entries) → AreAbove i es → lookup (is_at (item_cmp i)) es ≡ None
 not_there i [] h = refl
 not_there i (e ∷ es) h = rw (h.0) (not_there i es h.1)
 

@@ -2,8 +2,8 @@
 use Rattle.std.proofs.Common.{ap, sym, ◌∙◌}
 use Rattle.std.proofs.lemmas.List.{drop_all}
 use Rattle.certifier.specs.Blockers.{later_writer}
-use Rattle.certifier.proofs.Blocking.{best, blocker_is, later_none}
-use Rattle.certifier.proofs.kept.blocker.Goals as goal
+use Rattle.certifier.proofs.FirstBlocker.{best, blocker_is, later_none}
+use Rattle.certifier.proofs.blocking.blocker.Goals as goal
 
 pub returns : goal.returns
 returns c =
