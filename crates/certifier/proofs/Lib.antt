@@ -14,3 +14,4 @@ pub mod NotingItems
 pub mod Forgotten
 pub mod Ranges
 pub mod SameEntries
+pub mod NumberLists

@@ -1,8 +1,7 @@
 -- A positive transaction: the blocks taken, the last numbers and the items after it.
 use Rattle.std.proofs.Common.{◌≡◌, ℕ, suc, ◌+◌, ◌*◌, ◌%◌, ◌≤◌, ◌<◌, ◌⊎◌, inl, inr, Bool, true, false, cond, Option, Some, None, List, refl, sym, ap, subst, ◌∙◌, arith, eqb}
 use Rattle.std.specs.Prelude.{if◌then◌else◌, option_map, is_some, IsSome, IfSome}
-use Rattle.std.specs.List.Sorted.{IsStrictlySortedBy}
-use Rattle.std.specs.Map.{keys_of, lookup}
+use Rattle.std.specs.Map.{lookup}
 use Rattle.std.specs.BTreeMap.{BTreeMap, IsOrdered, Updates, get, is_at}
 use Rattle.std.specs.Ordering.{is_eq}
 use Rattle.std.proofs.lemmas.Map.Lookups.{btree_map_from_get}
@@ -11,14 +10,12 @@ use Rattle.std.proofs.Math.Nat.{eq-or-lt_of_le, mul-add-mod_self_right, mul-mod_
 use Rattle.gr_ids.specs.declared.names.Inc.{Inc}
 use Rattle.gr_ids.specs.declared.names.Gtid.{Gtid}
 use Rattle.gr_ids.specs.declared.names.LastNumber.{LastNumber}
-use Rattle.key_items.specs.declared.item.Item.{Item}
 use Rattle.key_items.specs.declared.item.KeptItem.{KeptItem}
 use Rattle.txn_forms.specs.declared.body.Txn.{Txn}
 use Rattle.group_rules.specs.Certifier.{blocker, next_gtid, number_after, opens_block, with_last, written_by}
-use Rattle.certifier.specs.declared.writer.Writer.{Writer}
 use Rattle.certifier.specs.Blockers.{writer_of}
 use Rattle.certifier.specs.Certifying.{Certifying, limits_of, with_txn}
-use Rattle.certifier.specs.Inside.{IsSound, inc_cmp, item_cmp}
+use Rattle.certifier.specs.Inside.{IsSound, inc_cmp}
 use Rattle.certifier.proofs.IncOrder.{inc_cmp_total, inc_eq_cmp, same_inc}
 
 pub no_blocker : (o : Option KeptItem) → option_map writer_of o ≡ None → o ≡ None

@@ -1,5 +1,5 @@
 -- A certifier with the settings of its group. What is kept and what an entry changes there stands in the rules of the group.
-use Rattle.std.specs.Prelude.{ℕ, ◌*◌, IsTrue, nat_le, Some, List, fold, map}
+use Rattle.std.specs.Prelude.{ℕ, ◌*◌, IsTrue, nat_le, Some, List, [], fold, map}
 use Rattle.std.specs.List.{list_all}
 use Rattle.gr_ids.specs.declared.names.Inc.{Inc}
 use Rattle.gr_ids.specs.declared.names.LastNumber.{LastNumber}

@@ -105,7 +105,11 @@ impl Certifier {
         let gtid = self.next_gtid(origin);
         let before = self.last.insert(origin, gtid.number)?;
         let writer = Writer { gtid, place };
-        if self.kept.write(alloc, txn.items.as_slice(), &writer).is_err() {
+        if self
+            .kept
+            .write(alloc, txn.items.as_slice(), &writer)
+            .is_err()
+        {
             put_back(&mut self.last, &origin, before);
             return Err(Memory);
         }

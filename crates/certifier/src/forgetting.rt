@@ -33,10 +33,7 @@ pub(crate) fn forget_run(
 }
 
 // Takes out a writer in the run, with the items that it wrote.
-fn take_writer(
-    written: &mut BTreeMap<Gtid, Vec<Item>>,
-    run: &Run,
-) -> Option<(Gtid, Vec<Item>)>
+fn take_writer(written: &mut BTreeMap<Gtid, Vec<Item>>, run: &Run) -> Option<(Gtid, Vec<Item>)>
     requires { IsRun run.now }
     ensures { MatchOption result (HasNone written.old.entries written.new.entries run.now) (λ w. Takes written.old.entries written.new.entries run.now w.0 w.1) }
 {

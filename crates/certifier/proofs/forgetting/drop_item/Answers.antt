@@ -1,5 +1,5 @@
 -- The item goes where the writer is its last one.
-use Rattle.std.proofs.Common.{◌≡◌, sym, ◌∙◌}
+use Rattle.std.proofs.Common.{sym, ◌∙◌}
 use Rattle.certifier.proofs.Forgotten.{item_dropped, item_stays}
 use Rattle.certifier.proofs.forgetting.drop_item.Goals as goal
 

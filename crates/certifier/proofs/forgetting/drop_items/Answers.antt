@@ -1,5 +1,5 @@
 -- One more is dropped; at the end all are.
-use Rattle.certifier.proofs.Forgotten.{dropping_begun, dropping_next, dropping_end}
+use Rattle.certifier.proofs.Forgotten.{dropping_begun, dropping_next}
 use Rattle.certifier.proofs.forgetting.drop_items.Goals as goal
 
 pub loop-item-init : goal.loop-item-init

@@ -1,11 +1,11 @@
 -- One writer more is forgotten; at the end the run has none.
-use Rattle.std.proofs.Common.{◌≡◌, List, sym, ap, subst, ◌∙◌}
+use Rattle.std.proofs.Common.{List, sym, ap, subst, ◌∙◌}
 use Rattle.std.specs.Prelude.{if◌then◌else◌}
 use Rattle.key_items.specs.declared.item.Item.{Item}
 use Rattle.key_items.specs.Items.{has_item}
 use Rattle.certifier.specs.Forgetting.{unless_by}
 use Rattle.certifier.specs.Inside.{IsIndexed}
-use Rattle.certifier.proofs.Forgotten.{emptying_begun, emptying_next, emptying_end}
+use Rattle.certifier.proofs.Forgotten.{emptying_next, emptying_end}
 use Rattle.certifier.proofs.Noted.{Written}
 use Rattle.certifier.proofs.PuttingBack.{writer_at}
 use Rattle.certifier.proofs.forgetting.forget_run.Goals as goal

@@ -1,5 +1,5 @@
 -- The item is put behind the writer's others, or is its first one.
-use Rattle.std.proofs.Common.{◌≡◌, Some, None, refl, sym, ap, ◌∙◌}
+use Rattle.std.proofs.Common.{Some, None, refl, sym}
 use Rattle.std.proofs.lemmas.Result.{on_ok_weaker}
 use Rattle.certifier.proofs.Noted.{grown, more_noted, new_noted, pushed}
 use Rattle.certifier.proofs.noting.note.Goals as goal

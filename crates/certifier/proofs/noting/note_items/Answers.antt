@@ -1,5 +1,5 @@
 -- One more is noted; at the end all are.
-use Rattle.certifier.proofs.NotingItems.{noting_begun, noting_next, noting_end}
+use Rattle.certifier.proofs.NotingItems.{noting_begun, noting_next}
 use Rattle.certifier.proofs.noting.note_items.Goals as goal
 
 pub loop-item-init : goal.loop-item-init

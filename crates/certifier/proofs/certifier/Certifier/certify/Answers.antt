@@ -13,7 +13,7 @@ use Rattle.certifier.proofs.certifier.Certifier.certify.Goals as goal
 pub invariant_of-self-then-is_err : goal.invariant_of-self-then-is_err
 invariant_of-self-then-is_err c =
     let last = undone c.args.origin c.self.inside.last c.insert.new.self c.put_back.new.map c.next_gtid-gtid.result.number c.in_ok-before.before c.in_ok-before.ensures.old c.in_ok-before.ensures.updates
-        c.put_back.ensures.back c.in_ok-before.ensures.was_ordered c.put_back.ensures.ordered in
+    c.put_back.ensures.back c.in_ok-before.ensures.was_ordered c.put_back.ensures.ordered in
     rw last c.self.invariant
 
 pub returns-then-is_err-clause-err : goal.returns-then-is_err-clause-err

@@ -1,5 +1,5 @@
 -- One run more is forgotten; at the end all are.
-use Rattle.std.proofs.Common.{◌≡◌, sym, subst}
+use Rattle.std.proofs.Common.{sym, subst}
 use Rattle.gtid_sets.specs.Canonical.{IsCanonical}
 use Rattle.gtid_sets.specs.Sets.{Gtids}
 use Rattle.certifier.proofs.Forgotten.{shedding_begun, shedding_next, shedding_end, run_at}

@@ -1,5 +1,5 @@
 -- One item more is put in; items that ascend are put in as they are.
-use Rattle.std.proofs.Common.{◌≡◌, sym, ◌∙◌}
+use Rattle.std.proofs.Common.{sym, ◌∙◌}
 use Rattle.certifier.proofs.KeptLists.{filling_next, filling_end, no_items}
 use Rattle.certifier.proofs.kept.KeptItems.of.Goals as goal
 
