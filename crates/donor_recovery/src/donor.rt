@@ -1,5 +1,7 @@
 // What a donor gives.
-ghost use Rattle.std.specs.Prelude.{◌≡◌, ◌∷◌, [], ◌++◌, filter, IfErr, IfOk, IsSomeAnd, not, OnErr, OnOk};
+ghost use Rattle.std.specs.Prelude.{◌≡◌, ◌∷◌, [], ◌++◌, filter, IfErr, IfOk, IsSomeAnd, not, OnErr, OnOk, option_copied};
+ghost use Rattle.std.specs.BTreeMap.{get};
+ghost use Rattle.std.specs.Ordering.{nat_cmp};
 ghost use Rattle.std.specs.List.{All};
 ghost use Rattle.gr_ids.specs.declared.memory.Memory.{Memory};
 ghost use Rattle.gtid_sets.specs.Sets.{has};
@@ -92,7 +94,7 @@ impl Donor {
         ensures ok { IfOk result (λ give. IsSomeAnd (at_place self.now.adds ask.now.place) (λ at. give ≡ give_from at (filter (is_by_place ask.now.place) self.now.certified) ask.now.executed)) }
         ensures err { IfErr result (IsGiveFault self.now ask.now) }
     {
-        let Some(at) = self.adds.get(&key_of(ask.place)) else {
+        let Some(at) = kept_at(&self.adds, ask.place) else {
             return Err(GiveFault::NotKept { place: ask.place });
         };
         let at = at.try_copy(alloc)?;
@@ -116,6 +118,13 @@ fn give_with(place: Pos, at: AtAdd, certified: GtidSet, txns: Sequence<Given>) -
         txns,
         parts: at.parts,
     }
+}
+
+// The data of the Add at the place.
+fn kept_at<'a>(adds: &'a BTreeMap<u64, AtAdd>, place: Pos) -> Option<&'a AtAdd>
+    ensures { option_copied result ≡ get nat_cmp adds.now place }
+{
+    adds.get(&place.0)
 }
 
 // The key of a place in a map.
