@@ -1,0 +1,4 @@
+pub mod KeyReads
+pub mod Losers
+pub mod Places
+pub mod Lists

@@ -1,0 +1,4 @@
+pub mod Versions
+pub mod ChainReads
+pub mod Folds
+pub mod RowOrder
