@@ -8,7 +8,8 @@ use Rattle.txn_forms.specs.Bodies.{body_bytes}
 use Rattle.group_rules.specs.View.{is_single}
 use Rattle.group_rules.specs.Events.{Called, Changed, AsksCommit}
 use Rattle.group_rules.specs.Life.{state, is_up, executed, view, last_made}
-use Rattle.group_rules.specs.Parts.{whole_bytes, most_bytes, cut}
+use Rattle.txn_forms.specs.Parts.{whole_bytes, most_bytes}
+use Rattle.group_rules.specs.Parts.{cut}
 use Rattle.group_rules.specs.Sessions.{Phase, Free, Holding, Active, Asking, phase, Call, last_call, changes}
 use Rattle.group_rules.specs.Keys.{killed, was_left, holder}
 use Rattle.group_rules.specs.Rows.{fits, row_now, row_then}

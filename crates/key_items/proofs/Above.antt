@@ -39,13 +39,13 @@ eq_other x y h = grind (arith, nat_tests)
 abbrev pub tested : List ℕ → Bool → List ℕ → Bool
 tested floor itself string = bytes_lt floor string || (bytes_eq floor string && itself)
 
-tested_above : (t x : ℕ) (ts xs : List ℕ) (itself : Bool) → t < x → tested (t ∷ ts) itself (x ∷ xs) ≡ true
+pub tested_above : (t x : ℕ) (ts xs : List ℕ) (itself : Bool) → t < x → tested (t ∷ ts) itself (x ∷ xs) ≡ true
 tested_above t x ts xs itself h = rw (cmp_less t x h) refl
 
-tested_below : (t x : ℕ) (ts xs : List ℕ) (itself : Bool) → x < t → tested (t ∷ ts) itself (x ∷ xs) ≡ false
+pub tested_below : (t x : ℕ) (ts xs : List ℕ) (itself : Bool) → x < t → tested (t ∷ ts) itself (x ∷ xs) ≡ false
 tested_below t x ts xs itself h = rw (cmp_greater t x h, eq_other t x h) refl
 
-tested_same : (x : ℕ) (ts xs : List ℕ) (itself : Bool) → tested (x ∷ ts) itself (x ∷ xs) ≡ tested ts itself xs
+pub tested_same : (x : ℕ) (ts xs : List ℕ) (itself : Bool) → tested (x ∷ ts) itself (x ∷ xs) ≡ tested ts itself xs
 tested_same x ts xs itself = rw (cmp_same x, eq_same x) refl
 
 pub passes_above : (t x k : ℕ) (ts front : List ℕ) (itself : Bool) → t < x → passes (t ∷ ts) itself (suc k) (x ∷ front) ≡ true

@@ -1,7 +1,7 @@
 -- Items as bytes: the length of the table's name, 1 to 64, in one byte, the name, the length of the key, 1 to 255, in one byte, the key.
 -- In a list each item is above the one before. A fault stands at the first byte with which no such item begins.
 use Rattle.std.specs.Prelude.{◌≡◌, ℕ, ◌-◌, ◌≤◌, Bool, true, ◌&&◌, ◌||◌, Option, Some, None, List, [], ◌++◌, length, replicate, nat_le, if◌then◌else◌}
-use Rattle.byte_forms.specs.Numbers.{number, number_of}
+use Rattle.byte_forms.specs.Numbers.{number, number_of, are_bytes}
 use Rattle.byte_forms.specs.Reads.{Reader, ◌>>=◌, pure}
 use Rattle.byte_forms.specs.Fields.{field}
 use Rattle.gr_ids.specs.Names.{bytes_eq, bytes_lt}
@@ -20,6 +20,10 @@ item_bytes i = number 1 (length i.table) ++ (i.table ++ (number 1 (length i.key)
 abbrev pub IsItemAfter : Option Item → Item → Type 0
 IsItemAfter None i = IsItem i
 IsItemAfter (Some b) i = IsItem i × (item_lt b i ≡ true)
+
+-- what memory holds: each byte is below 256
+abbrev pub AreBytes : Item → Type 0
+AreBytes i = (are_bytes i.table ≡ true) × (are_bytes i.key ≡ true)
 
 -- ---- which tables and keys go on
 

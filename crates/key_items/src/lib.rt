@@ -4,6 +4,7 @@
 mod change;
 mod floors;
 mod item;
+mod laws;
 mod spelling;
 #[cfg(test)]
 mod tests;
@@ -11,5 +12,6 @@ mod write_set;
 
 pub use change::{Change, ChangeKind};
 pub use item::{Item, KeptItem};
+pub use laws::bytes_of_items;
 pub use spelling::{put_item, put_write_set, take_item_after, take_write_set};
 pub use write_set::WriteSet;

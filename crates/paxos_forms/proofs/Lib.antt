@@ -1,2 +1,5 @@
 pub mod Parts
 pub mod Listed
+pub mod GiveForms
+pub mod WelcomeForms
+pub mod MessageForms

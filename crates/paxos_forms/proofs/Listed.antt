@@ -3,14 +3,14 @@ use Rattle.std.proofs.Common.{ℕ, ◌≤◌, ◌<◌, ◌^◌, List, [], ◌∷
 use Rattle.std.specs.List.{AllByRecursion}
 use Rattle.byte_forms.specs.Lists.{IsChain}
 use Rattle.byte_forms.proofs.ListLemmas.{chain_all}
-use Rattle.gr_ids.specs.declared.names.OpenParts.{OpenParts}
+use Rattle.name_forms.specs.OpenParts.{OpenParts, IsOpenAfter}
 use Rattle.key_items.specs.declared.item.Item.{Item}
 use Rattle.key_items.specs.declared.item.KeptItem.{KeptItem}
 use Rattle.key_items.specs.Spelling.{IsItem, IsItemAfter}
 use Rattle.key_items.proofs.ItemLemmas.{each_item}
 use Rattle.slot_values.specs.declared.value.Vote.{Vote}
 use Rattle.slot_values.specs.Spelling.{IsWhat, IsVoteAfter}
-use Rattle.paxos_forms.specs.Gives.{Given, IsKeptAfter, IsGivenAfter, IsOpenAfter, item_of_kept}
+use Rattle.paxos_forms.specs.Gives.{Given, IsKeptAfter, IsGivenAfter, item_of_kept}
 
 pub all_unit : {A : Type 0} (xs : List A) → AllByRecursion (λ x. Unit {0}) xs
 all_unit [] = tt

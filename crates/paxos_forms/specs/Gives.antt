@@ -1,21 +1,22 @@
 -- Asks and Gives as bytes.
 use Rattle.std.specs.Prelude.{◌≡◌, ℕ, suc, ◌+◌, ◌-◌, ◌*◌, ◌≤◌, ◌<◌, Option, Some, None, List, [], ◌∷◌, ◌++◌, length}
+use Rattle.std.specs.List.{AllByRecursion}
 use Rattle.byte_forms.specs.Numbers.{number}
 use Rattle.byte_forms.specs.Reads.{Reader, ◌>>=◌, pure}
 use Rattle.byte_forms.specs.Fields.{number_in}
 use Rattle.byte_forms.specs.Lists.{several, counted, list_of, bytes_in, IsChain}
 use Rattle.gr_ids.specs.declared.names.Inc.{Inc}
 use Rattle.gr_ids.specs.declared.names.LastNumber.{LastNumber}
-use Rattle.gr_ids.specs.declared.names.OpenParts.{OpenParts}
 use Rattle.name_forms.specs.Incs.{IsInc, IsIncAfter, inc_bytes, next_inc, next_inc_after}
 use Rattle.name_forms.specs.Gtids.{IsGtid, gtid_bytes, next_gtid}
 use Rattle.name_forms.specs.Ids.{last_u64}
+use Rattle.name_forms.specs.OpenParts.{OpenParts, IsOpenAfter, inc_of_parts, part_size, most_parts}
 use Rattle.gtid_sets.specs.Canonical.{IsCanonical}
-use Rattle.gtid_sets.specs.Spelling.{set_bytes, next_set}
+use Rattle.gtid_sets.specs.Spelling.{set_bytes, next_set, HasCounts}
 use Rattle.gtid_sets.specs.declared.told.ToldSet.{ToldSet}
 use Rattle.key_items.specs.declared.item.Item.{Item}
 use Rattle.key_items.specs.declared.item.KeptItem.{KeptItem}
-use Rattle.key_items.specs.Spelling.{IsItemAfter, item_bytes, next_item_after}
+use Rattle.key_items.specs.Spelling.{IsItemAfter, AreBytes, item_bytes, next_item_after}
 use Rattle.slot_values.specs.Slots.{last_slot}
 use Rattle.slot_values.specs.Spelling.{last_u32}
 pub use Rattle.paxos_forms.specs.declared.recovery.Ask.{Ask}
@@ -122,19 +123,7 @@ next_given_after place before = do
   bytes ← bytes_in 0 last_u32
   pure (record { place = at; origin = origin; gtid = gtid; body = bytes })
 
--- ---- open parts, strictly ascending by origin: how many there are, how many of them are held, at least one and not all, and their bytes,
--- 65,523 of each
-
-abbrev pub inc_of_parts : Option OpenParts → Option Inc
-inc_of_parts None = None
-inc_of_parts (Some b) = Some b.origin
-
-pub record IsOpenAfter (before : Option OpenParts) (x : OpenParts) : Type 0 where
-  pub origin : IsIncAfter (inc_of_parts before) x.origin
-  pub held_above : 1 ≤ x.held
-  pub held_below : x.held < x.count
-  pub count_below : x.count ≤ 257
-  pub bytes : length x.bytes ≡ 65523 * x.held
+-- ---- open parts, strictly ascending by origin: how many there are, how many of them are held, and their bytes
 
 abbrev pub parts_bytes : OpenParts → List ℕ
 parts_bytes x = inc_bytes x.origin ++ (number 4 x.count ++ (number 4 x.held ++ counted x.bytes))
@@ -142,9 +131,9 @@ parts_bytes x = inc_bytes x.origin ++ (number 4 x.count ++ (number 4 x.held ++ c
 unfoldable pub next_parts_after : Option OpenParts → Reader OpenParts
 next_parts_after before = do
   origin ← next_inc_after (inc_of_parts before)
-  count ← number_in 4 2 257
+  count ← number_in 4 2 most_parts
   held ← number_in 4 1 (count - 1)
-  bytes ← bytes_in (65523 * held) (65523 * held)
+  bytes ← bytes_in (part_size * held) (part_size * held)
   pure (record { origin = origin; count = count; held = held; bytes = bytes })
 
 -- ---- a Give: the place, the blocks taken, at most the place, the last numbers, the kept items, the told sets, the GTIDs of all certified
@@ -188,3 +177,10 @@ next_give = do
   txns ← list_of 0 (next_given_after place)
   parts ← list_of 0 next_parts_after
   pure (record { place = place; blocks = blocks; last = last; items = items; told = told; certified = certified; txns = txns; parts = parts })
+
+-- ---- what memory holds: bytes below 256, and sets whose counts fit four bytes
+
+pub record IsHeldGive (g : Give) : Type 0 where
+  pub items : AllByRecursion (λ x. AreBytes x.item) g.items
+  pub told : AllByRecursion (λ x. HasCounts x.set) g.told
+  pub certified : HasCounts g.certified

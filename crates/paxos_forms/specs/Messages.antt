@@ -6,10 +6,11 @@ use Rattle.byte_forms.specs.Fields.{number_in}
 use Rattle.byte_forms.specs.Lists.{several, list_of, IsChain}
 use Rattle.name_forms.specs.Incs.{IsInc, inc_bytes, next_inc}
 use Rattle.name_forms.specs.Ballots.{IsBallot, ballot_bytes, next_ballot}
+use Rattle.gtid_sets.specs.Spelling.{HasCounts}
 use Rattle.slot_values.specs.Slots.{IsSlot, last_slot}
 use Rattle.slot_values.specs.Spelling.{IsValue, IsVoteAfter, last_u32, value_bytes, vote_bytes, next_value, next_vote_after}
 use Rattle.paxos_forms.specs.Welcomes.{IsWelcome, welcome_bytes, next_welcome}
-use Rattle.paxos_forms.specs.Gives.{IsAsk, IsGive, ask_bytes, give_bytes, next_ask, next_give}
+use Rattle.paxos_forms.specs.Gives.{IsAsk, IsGive, IsHeldGive, ask_bytes, give_bytes, next_ask, next_give}
 pub use Rattle.paxos_forms.specs.declared.message.Message.{Message}
 pub use Rattle.paxos_forms.specs.declared.message.Wire.{Wire}
 pub use Rattle.paxos_forms.specs.declared.message.Wire.TheVariants.{Prepare, Promise, Accept, Accepted, Learn, Offer, Alive, Gone}
@@ -104,6 +105,20 @@ kinds =
 
 unfoldable pub next_wire : Reader Wire
 next_wire = number_in 1 1 11 >>= λ k. slice_index_or kinds (k - 1) (pure Gone)
+
+-- what memory holds: bytes below 256, and sets whose counts fit four bytes
+abbrev pub IsHeld : Wire → Type 0
+IsHeld (Prepare b s) = Unit {0}
+IsHeld (Promise b s xs) = Unit {0}
+IsHeld (Accept b t v) = Unit {0}
+IsHeld (Accepted b t) = Unit {0}
+IsHeld (Learn t v) = Unit {0}
+IsHeld (Offer v) = Unit {0}
+IsHeld (wire.Welcome w) = Unit {0}
+IsHeld (wire.Ask a) = HasCounts a.executed
+IsHeld (wire.Give g) = IsHeldGive g
+IsHeld (Alive n) = Unit {0}
+IsHeld Gone = Unit {0}
 
 -- ---- messages
 

@@ -30,6 +30,7 @@ pub fn encode(alloc: Global, message: &Message) -> Result<Blob, Memory>
 /// Linear in the bytes: what a count says takes no memory before it is there.
 pub fn decode(alloc: Global, bytes: &[u8]) -> Result<Message, MessageFault>
     ensures ok { IfOk result (λ message. whole next_message bytes.now ≡ Got message []) }
+    ensures spelled { IfOk result (λ message. IsMessage message × (bytes.now ≡ message_bytes message)) }
     ensures bad { IfErr result (λ e. IsFault bytes.now e) }
 {
     let mut from = Cutter::new(bytes);

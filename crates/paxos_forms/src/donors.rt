@@ -4,8 +4,9 @@ ghost use Rattle.byte_forms.specs.Cuts.{FaultsAt, Takes};
 ghost use Rattle.byte_forms.specs.Packs.{Keeps};
 ghost use Rattle.byte_forms.specs.Unreads.{Breaks};
 ghost use Rattle.key_items.specs.Spelling.{IsItem};
+ghost use Rattle.name_forms.specs.OpenParts.{inc_of_parts as inc_of_parts_of};
 ghost use Rattle.slot_values.specs.Slots.{last_slot};
-ghost use Rattle.paxos_forms.specs.Gives.{given_bytes, inc_of_last as inc_of_last_of, inc_of_parts as inc_of_parts_of, inc_of_told as inc_of_told_of, item_of_kept as item_of_kept_of, kept_bytes, last_bytes, next_given_after, next_kept_after, next_last_after, next_parts_after, next_told_after, parts_bytes, place_above as place_above_of, told_bytes};
+ghost use Rattle.paxos_forms.specs.Gives.{given_bytes, inc_of_last as inc_of_last_of, inc_of_told as inc_of_told_of, item_of_kept as item_of_kept_of, kept_bytes, last_bytes, next_given_after, next_kept_after, next_last_after, next_parts_after, next_told_after, parts_bytes, place_above as place_above_of, told_bytes};
 
 use crate::recovery::Given;
 use byte_forms::{Cutter, ListForm, Misfit, Packer, Unread, put_counted, take_counted};

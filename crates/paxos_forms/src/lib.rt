@@ -6,15 +6,19 @@ mod donors;
 mod fault;
 mod gives;
 mod incs;
+mod laws;
 mod members;
 mod message;
 mod recovery;
+#[cfg(test)]
+mod tests;
 mod welcome;
 mod welcomes;
 mod wires;
 
 pub use codec::{decode, encode};
 pub use fault::MessageFault;
+pub use laws::{bytes_of_messages, no_message_begins_another};
 pub use message::{Message, Wire};
 pub use recovery::{Ask, Give, Given};
 pub use welcome::{Welcome, WelcomeMember};

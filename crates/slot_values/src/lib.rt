@@ -2,6 +2,7 @@
 #![tactic(auto)]
 
 mod kept;
+mod laws;
 mod member;
 mod reading;
 mod spelling;
@@ -12,6 +13,7 @@ mod turns_at;
 mod value;
 
 pub use kept::Kept;
+pub use laws::bytes_of_values;
 pub use member::Member;
 pub use spelling::{
     put_joiner, put_value, put_vote, take_joiner_after, take_value, take_vote_after,

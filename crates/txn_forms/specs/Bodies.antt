@@ -7,9 +7,10 @@ use Rattle.byte_forms.specs.Fields.{number_in}
 use Rattle.byte_forms.specs.Lists.{several, counted, list_of, bytes_in, IsChain}
 use Rattle.name_forms.specs.Incs.{IsInc, inc_bytes, next_inc}
 use Rattle.name_forms.specs.Gtids.{IsGtid, gtid_bytes, next_gtid}
+use Rattle.name_forms.specs.OpenParts.{part_size, most_parts}
 use Rattle.gtid_sets.specs.Canonical.{IsCanonical}
-use Rattle.gtid_sets.specs.Spelling.{set_bytes, next_set}
-use Rattle.key_items.specs.Spelling.{IsItemAfter, item_bytes, next_item_after}
+use Rattle.gtid_sets.specs.Spelling.{set_bytes, next_set, HasCounts}
+use Rattle.key_items.specs.Spelling.{IsItemAfter, AreBytes, item_bytes, next_item_after}
 use Rattle.txn_forms.specs.Changes.{IsChange, last_u32, change_bytes, next_change}
 pub use Rattle.txn_forms.specs.declared.body.Txn.{Txn}
 pub use Rattle.txn_forms.specs.declared.body.Part.{Part}
@@ -50,13 +51,6 @@ unfoldable pub next_mode : Reader ModeChange
 next_mode = number_in 1 0 2 >>= λ k. slice_index_or modes k (pure Multi)
 
 -- ---- parts: the index, the count, and the bytes behind their count
-
--- what a part carries that isn't the last one
-abbrev pub part_size : ℕ
-part_size = 65523
-
-abbrev pub most_parts : ℕ
-most_parts = 257
 
 abbrev pub part_bytes : Part → List ℕ
 part_bytes p = number 4 p.index ++ (number 4 p.count ++ counted p.bytes)
@@ -133,3 +127,19 @@ IsBody (body.Online s) = IsCanonical s
 IsBody (body.Mode m) = IsModeChange m
 IsBody (body.Primary i) = IsInc i
 IsBody (body.Part p) = IsPart p
+
+-- ---- what memory holds: bytes below 256, and sets whose counts fit four bytes
+
+pub record IsHeldTxn (t : Txn) : Type 0 where
+  pub counts : HasCounts t.snapshot
+  pub items : AllByRecursion AreBytes t.items
+
+abbrev pub IsHeld : Body → Type 0
+IsHeld (body.Txn t) = IsHeldTxn t
+IsHeld (body.Prepared g) = Unit {0}
+IsHeld body.Sync = Unit {0}
+IsHeld (body.Executed s) = HasCounts s
+IsHeld (body.Online s) = HasCounts s
+IsHeld (body.Mode m) = Unit {0}
+IsHeld (body.Primary i) = Unit {0}
+IsHeld (body.Part p) = Unit {0}

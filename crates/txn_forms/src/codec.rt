@@ -4,7 +4,7 @@ ghost use Rattle.byte_forms.specs.Cuts.{Takes};
 ghost use Rattle.byte_forms.specs.Packs.{Keeps};
 ghost use Rattle.byte_forms.specs.Reads.{Got, whole};
 ghost use Rattle.byte_forms.specs.Unreads.{Breaks};
-ghost use Rattle.txn_forms.specs.Bodies.{IsBody, body_bytes, next_body};
+ghost use Rattle.txn_forms.specs.Bodies.{IsBody, IsHeld, body_bytes, next_body};
 ghost use Rattle.txn_forms.specs.Faults.{IsFault};
 ghost use Rattle.gr_ids.specs.declared.memory.Memory.{Memory};
 
@@ -18,10 +18,12 @@ use gtid_sets::GtidSet;
 use name_forms::{put_gtid, put_inc, take_gtid, take_inc};
 use std::alloc::Global;
 
-/// The bytes of a body. Linear in them.
+/// The bytes of a body, which are read as that body again. Linear in them. A set whose counts need more than four
+/// bytes has no spelling, and is answered as want of memory; it would take 128 GiB.
 pub fn encode(alloc: Global, body: &Body) -> Result<Blob, Memory>
     requires { IsBody body.now }
-    ensures { IfOk result (λ blob. blob ≡ body_bytes body.now) }
+    ensures ok { IfOk result (λ blob. blob ≡ body_bytes body.now) }
+    ensures back { IfOk result (λ blob. whole next_body blob ≡ Got body.now []) }
 {
     let mut to = Packer::new(alloc);
     put_body(&mut to, body)?;
@@ -32,6 +34,7 @@ pub fn encode(alloc: Global, body: &Body) -> Result<Blob, Memory>
 /// Linear in the bytes: what a count says takes no memory before it is there.
 pub fn decode(alloc: Global, bytes: &[u8]) -> Result<Body, BodyFault>
     ensures ok { IfOk result (λ body. whole next_body bytes.now ≡ Got body []) }
+    ensures spelled { IfOk result (λ body. IsBody body × (bytes.now ≡ body_bytes body)) }
     ensures bad { IfErr result (λ e. IsFault bytes.now e) }
 {
     let mut from = Cutter::new(bytes);
@@ -60,6 +63,7 @@ fn take_body(alloc: Global, from: &mut Cutter) -> Result<Body, Unread>
 fn put_body(to: &mut Packer, body: &Body) -> Result<(), Memory>
     requires { IsBody body.now }
     ensures ok { OnOk result (to.new ≡ to.old ++ body_bytes body.now) }
+    ensures held { OnOk result (IsHeld body.now) }
     ensures err { OnErr result (Keeps to.old to.new) }
 {
     match body {

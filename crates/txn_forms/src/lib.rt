@@ -4,10 +4,22 @@
 mod body;
 mod changes;
 mod codec;
+mod copies;
 mod fault;
+mod fits;
+mod joined;
+mod joining;
+mod laws;
 mod news;
+mod parts;
+mod places;
+#[cfg(test)]
+mod tests;
 mod txns;
 
 pub use body::{Body, ModeChange, Part, Txn};
 pub use codec::{decode, encode};
 pub use fault::BodyFault;
+pub use joined::Joined;
+pub use laws::{bytes_of_bodies, no_body_begins_another, parts_of_origins};
+pub use parts::Parts;

@@ -3,7 +3,8 @@ ghost use Rattle.std.specs.Prelude.{◌≡◌, ◌==◌, ◌++◌, if◌then◌e
 ghost use Rattle.byte_forms.specs.Cuts.{FaultsAt, Takes};
 ghost use Rattle.byte_forms.specs.Packs.{Keeps};
 ghost use Rattle.byte_forms.specs.Unreads.{Breaks};
-ghost use Rattle.txn_forms.specs.Bodies.{IsPart, mode_bytes, next_mode, next_part, part_bytes, part_size};
+ghost use Rattle.name_forms.specs.OpenParts.{part_size};
+ghost use Rattle.txn_forms.specs.Bodies.{IsPart, mode_bytes, next_mode, next_part, part_bytes};
 
 use crate::body::{ModeChange, Part};
 use byte_forms::{Cutter, Misfit, Packer, Unread, put_counted, take_counted};

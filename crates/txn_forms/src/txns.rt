@@ -3,10 +3,11 @@ ghost use Rattle.std.specs.Prelude.{◌≡◌, ◌++◌, IfErr, IfOk, OnErr, OnO
 ghost use Rattle.byte_forms.specs.Cuts.{Takes};
 ghost use Rattle.byte_forms.specs.Packs.{Keeps};
 ghost use Rattle.byte_forms.specs.Unreads.{Breaks};
-ghost use Rattle.txn_forms.specs.Bodies.{IsTxn, next_txn, txn_bytes};
+ghost use Rattle.txn_forms.specs.Bodies.{IsHeldTxn, IsTxn, next_txn, txn_bytes};
 
 use crate::body::Txn;
 use crate::changes::Changes;
+use crate::fits::items_fit;
 use byte_forms::{Cutter, Packer, Unread, put_list, take_list};
 use gr_ids::Memory;
 use gtid_sets::GtidSet;
@@ -33,8 +34,10 @@ pub(crate) fn take_txn(alloc: Global, from: &mut Cutter) -> Result<Txn, Unread>
 pub(crate) fn put_txn(to: &mut Packer, txn: &Txn) -> Result<(), Memory>
     requires { IsTxn txn.now }
     ensures ok { OnOk result (to.new ≡ to.old ++ txn_bytes txn.now) }
+    ensures held { OnOk result (IsHeldTxn txn.now) }
     ensures err { OnErr result (Keeps to.old to.new) }
 {
+    items_fit(txn.items.as_slice());
     to.put_u8(u8::from(txn.after))?;
     txn.snapshot.write_bytes(to)?;
     put_write_set(to, &txn.items)?;

@@ -1,0 +1,17 @@
+pub mod IncOrder
+pub mod LastMaps
+pub mod ItemMaps
+pub mod FirstBlocker
+pub mod KeptLists
+pub mod Bounds
+pub mod PuttingBack
+pub mod WritingItems
+pub mod Results
+pub mod Positive
+pub mod GtidOrder
+pub mod Noted
+pub mod NotingItems
+pub mod Forgotten
+pub mod Ranges
+pub mod SameEntries
+pub mod NumberLists

@@ -1,0 +1,4 @@
+pub mod Donating
+pub mod Inside
+pub mod Asking
+pub mod Laws

@@ -1,0 +1,10 @@
+-- What holds at Ok, taken further.
+use Rattle.std.proofs.Common.{Result, Ok, Err, OnOk}
+
+pub on_ok : {T E P Q : Type 0} (r : Result T E) → (P → Q) → OnOk r P → OnOk r Q
+on_ok (Ok x) f p = f p
+on_ok (Err e) f p = tt
+
+pub at_ok : {T E P : Type 0} (r : Result T E) → P → OnOk r P
+at_ok (Ok x) p = p
+at_ok (Err e) p = tt

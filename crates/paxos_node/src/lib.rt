@@ -1,0 +1,21 @@
+//! One node of the ordering by Multi-Paxos: acceptor, learner and perhaps leader, and the log that it takes.
+#![tactic(auto)]
+
+mod campaigning;
+mod leading;
+mod learning;
+mod node;
+mod order;
+mod proposing;
+mod sending;
+mod step;
+mod taking;
+#[cfg(test)]
+mod tests;
+mod ticking;
+mod told;
+mod turns;
+mod voting;
+mod welcoming;
+
+pub use node::Node;

@@ -1,0 +1,2 @@
+pub mod IncOrder
+pub mod ToldMaps
