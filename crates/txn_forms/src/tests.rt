@@ -178,6 +178,8 @@ fn parts_join_to_a_large_transaction(rt: HostRuntime) -> Result<(), Fail> {
     assert_eq!(rt; whole.len(), 80_040);
     let (first, rest) = whole.split_at(65_523);
     assert_eq!(rt; rest.len(), 14_517);
+    let (short, _) = rest.split_at(14_516);
+    let (few, _) = rest.split_at(13);
     let rows = [
         (1, 1, 2, first, Outcome::Open, 1),
         (2, 1, 3, first, Outcome::Open, 2),
@@ -193,10 +195,10 @@ fn parts_join_to_a_large_transaction(rt: HostRuntime) -> Result<(), Fail> {
         (1, 2, 3, first, Outcome::Void, 0),
         (1, 1, 2, first, Outcome::Open, 1),
         // 65,536 bytes are no large body
-        (1, 2, 2, &rest[..13], Outcome::Void, 0),
+        (1, 2, 2, few, Outcome::Void, 0),
         (1, 1, 2, first, Outcome::Open, 1),
         // the last byte of the body is missing
-        (1, 2, 2, &rest[..14_516], Outcome::Void, 0),
+        (1, 2, 2, short, Outcome::Void, 0),
     ];
     let mut parts = Parts::new(rt.alloc());
     for (server, index, count, bytes, expected, open) in rows.iter() {
