@@ -52,7 +52,9 @@ use Rattle.group_rules.specs.Rows.{row_then}
 use Rattle.group_rules.specs.Holds.{has_sync, sync_told}
 use Rattle.group_rules.specs.Queue.{pending, at_place, queue, is_own}
 use Rattle.group_rules.specs.Commit.{may_commit, owes_prepared}
-use Rattle.group_rules.specs.Parts.{whole_bytes, part_bytes, cut, cut_from}
+use Rattle.name_forms.specs.OpenParts.{part_size}
+use Rattle.txn_forms.specs.Parts.{whole_bytes}
+use Rattle.group_rules.specs.Parts.{cut, cut_from}
 use Rattle.group_rules.specs.Calls.{begin, send_sync, change_row, unless_locked, statement, own_part, ask_commit, send_parts, send_txn, commit_bytes, commit_changes, in_transaction, without_transaction, by_phase, unless_killed, call, misfit, state_then, read_only, is_read_only, txn_of}
 use Rattle.group_rules.specs.Welcomes.{hear_welcome}
 use Rattle.node_rules.specs.Welcoming.{is_in_order, is_for}
@@ -199,15 +201,15 @@ module _ (e : Event) where
   moves_cut t s id past o q large (suc zero) c b done a h m r = go (p.index == p.count) (eq-eqb p.index p.count (omega arith))
     where
       p : Part
-      p = record { index = c - 0; count = c; bytes = take part_bytes b }
+      p = record { index = c - 0; count = c; bytes = take part_size b }
 
       go : (x : Bool) → x ≡ true → Moves e a (own (Says (body_bytes (PartOf p))) (Some (elim x [ true ↦ HasTxn t | false ↦ PartOf p ])) a)
       go true y = moves_own (Says (body_bytes (PartOf p))) (Some (HasTxn t)) a (record { session = s; id = id; past = past; is_open = o; txn = q; parts = done; since = m; bytes = inr (p, refl, large, reverse-append (p ∷ []) done ∙ r) })
       go false y = absurd (false≢true y)
-  moves_cut t s id past o q large (suc (suc k)) c b done a h m r = go (p.index == p.count) off (moves_cut t s id past o q large (suc k) c (drop part_bytes b) (p ∷ done) next (omega arith) since more)
+  moves_cut t s id past o q large (suc (suc k)) c b done a h m r = go (p.index == p.count) off (moves_cut t s id past o q large (suc k) c (drop part_size b) (p ∷ done) next (omega arith) since more)
     where
       p : Part
-      p = record { index = c - suc k; count = c; bytes = take part_bytes b }
+      p = record { index = c - suc k; count = c; bytes = take part_size b }
 
       off : (p.index == p.count) ≡ false
       off = eqb_false p.index p.count (omega arith)
@@ -218,10 +220,10 @@ module _ (e : Event) where
       since : MadeParts (p ∷ done) next.life (AsksCommit s id ∷ past)
       since = (record { id = next_id a; what = Says (body_bytes (PartOf p)) }, a.life, refl, m)
 
-      more : reverse (p ∷ done) ++ cut_from (suc k) c (drop part_bytes b) ≡ cut (body_bytes (HasTxn t))
-      more = ap (λ l. l ++ cut_from (suc k) c (drop part_bytes b)) (reverse-append (p ∷ []) done) ∙ (append_assoc (reverse done) (p ∷ []) (cut_from (suc k) c (drop part_bytes b)) ∙ r)
+      more : reverse (p ∷ done) ++ cut_from (suc k) c (drop part_size b) ≡ cut (body_bytes (HasTxn t))
+      more = ap (λ l. l ++ cut_from (suc k) c (drop part_size b)) (reverse-append (p ∷ []) done) ∙ (append_assoc (reverse done) (p ∷ []) (cut_from (suc k) c (drop part_size b)) ∙ r)
 
-      go : (x : Bool) → x ≡ false → Moves e next (for_each (own_part t) (cut_from (suc k) c (drop part_bytes b)) next) → Moves e a (for_each (own_part t) (cut_from (suc k) c (drop part_bytes b)) (own (Says (body_bytes (PartOf p))) (Some (elim x [ true ↦ HasTxn t | false ↦ PartOf p ])) a))
+      go : (x : Bool) → x ≡ false → Moves e next (for_each (own_part t) (cut_from (suc k) c (drop part_size b)) next) → Moves e a (for_each (own_part t) (cut_from (suc k) c (drop part_size b)) (own (Says (body_bytes (PartOf p))) (Some (elim x [ true ↦ HasTxn t | false ↦ PartOf p ])) a))
       go true y w = absurd (false≢true (sym y))
       go false y w = Then (moves_own (Says (body_bytes (PartOf p))) (Some (PartOf p)) a (refl, off)) w
 
@@ -235,7 +237,7 @@ module _ (e : Event) where
       let t : Txn = txn_of s a in
       let b : List ℕ = body_bytes (HasTxn t) in
       let i : ValueId = record { origin = a.me.inc; number = last_made a.life + length (cut b) } in
-      let c : ℕ = (length b + part_bytes - 1) / part_bytes in
+      let c : ℕ = (length b + part_size - 1) / part_size in
       moves_ask_commit s (last_made a.life + length (cut b)) (for_each (own_part t) (cut b)) a o (moves_cut t s i a.life o refl large c c b [] (push (AsksCommit s i) a) (omega arith) refl refl)
 
   moves_send_txn : (s : ℕ) (a : Member) → IsOpen a.life s → Moves e a (send_txn s (txn_of s a) (body_bytes (HasTxn (txn_of s a))) a)

@@ -39,7 +39,8 @@ use Rattle.group_rules.specs.Keys.{killed, was_left, holder}
 use Rattle.group_rules.specs.Rows.{fits, row_now, known}
 use Rattle.group_rules.specs.Holds.{is_released, sync_told}
 use Rattle.group_rules.specs.Calls.{state_then, items_of, is_after_call}
-use Rattle.group_rules.specs.Parts.{whole_bytes, cut}
+use Rattle.txn_forms.specs.Parts.{whole_bytes}
+use Rattle.group_rules.specs.Parts.{cut}
 use Rattle.group_rules.specs.Recovery.{add_place, certs_given, pending_ask, is_possible, is_add, give_of}
 use Rattle.group_rules.specs.Taking.{entry_of}
 
