@@ -2,3 +2,9 @@ mod Flips
 mod Logs
 mod Incs
 mod Shapes
+mod Adds
+mod Spans
+mod Nexts
+mod Listed
+mod Joins
+mod Orders

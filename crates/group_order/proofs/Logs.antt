@@ -10,11 +10,11 @@ use Rattle.node_rules.specs.World as nodes
 use Rattle.order_laws.specs.Laws.{InEveryRun, OneLog, KeptAsInLog}
 use Rattle.gr_ids.specs.declared.names.Inc.{Inc}
 use Rattle.group_rules.specs.Events.{Did, Founds, Starts, Came, Made, Took, Skips, Done, Committed, Is, Gave, Answered, Begun, Changed, Replied, Called, AsksCommit, Ends, Enters, Restores, AskFails, Setup}
-use Rattle.group_rules.specs.World.{Past, Does, Writes, Halts, world_after}
+use Rattle.group_rules.specs.World.{Past, Does, Writes, Halts}
 use Rattle.group_rules.specs.Steps.{group_of}
 use Rattle.group_rules.specs.OneList.{reading_of, value_at, before_slot}
-use Rattle.group_runs.specs.Runs.{as_sent, IsSetup, IsNodeRun, AllDid, TookIn, OfSlots, OfNodes, EveryRun}
-use Rattle.group_order.specs.OneLog.{OnLog, LeftBy, EveryRunHasOne}
+use Rattle.group_runs.specs.Runs.{as_sent, IsSetup, IsNodeRun, AllDid, TookIn, OfSlots}
+use Rattle.group_order.specs.OneLog.{OnLog, LeftBy}
 use Rattle.group_order.proofs.Flips.{flip, flip_flip, flip_length, read_flip, get_flip, take_flip, front_of, get_take, take_less, take_whole, get_end}
 
 pub record LogOf (t : Setup) (v : nodes.World) (log : List Value) : Type 0 where
@@ -152,14 +152,8 @@ module _ (t : Setup) (v : nodes.World) (log : List Value) (of : LogOf t v log) w
   left_so p i (Restores g cs) z = tt
   left_so p i AskFails z = tt
 
-  left_all : (p : Past) → AllDid (OfSlots (TookIn t v)) p → AllDid (OfSlots (LeftBy t log)) p
+  pub left_all : (p : Past) → AllDid (OfSlots (TookIn t v)) p → AllDid (OfSlots (LeftBy t log)) p
   left_all [] h = tt
   left_all (Does i d ∷ p) h = (left_so p i d h.0, left_all p h.1)
   left_all (Writes n x ∷ p) h = left_all p h
   left_all (Halts n ∷ p) h = left_all p h
-
-pub every_run_has_one : EveryRun → InEveryRun OneLog → InEveryRun KeptAsInLog → EveryRunHasOne
-every_run_has_one runs one kept ms t q good =
-    let x : OfNodes t (world_after ms) = runs ms t q good in
-    let l = the_log t good x.nodes x.run one kept in
-    (l.0, left_all t x.nodes l.0 l.1 (world_after ms).past x.took)

@@ -64,7 +64,7 @@ one_thing : (d e : Did) (l : Life) → 1 < length l → d ∷ l ≡ e ∷ [] →
 one_thing d e l h q = let z : suc (length l) ≡ 1 = ap length q in absurd (omega (arith, h, z))
 
 -- a settled one doesn't end with a Welcome
-not_entering : (i : Inc) (l : Life) → is_settled i l ≡ true → EntersLast l → ⊥
+pub not_entering : (i : Inc) (l : Life) → is_settled i l ≡ true → EntersLast l → ⊥
 not_entering i l h e = absurd (false≢true (subst (λ x. is_settled i x ≡ true) e.2 h))
 
 -- ---- things that change nothing of this
