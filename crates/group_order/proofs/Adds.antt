@@ -17,7 +17,7 @@ use Rattle.group_order.proofs.Flips.{get_take, take_less, take_whole}
 
 -- ---- the incarnations that ever were members
 
-with_here : (xs : List Inc) (i : Inc) → has_inc (with_inc xs i) i ≡ true
+pub with_here : (xs : List Inc) (i : Inc) → has_inc (with_inc xs i) i ≡ true
 with_here [] i = ap (λ b. b || false) (inc_same i)
 with_here (x ∷ xs) i = go (inc_lt i x) (inc_eq i x) refl (with_here xs i)
   where
@@ -30,15 +30,15 @@ with_here (x ∷ xs) i = go (inc_lt i x) (inc_eq i x) refl (with_here xs i)
         or_right true h = refl
         or_right false h = h
 
-or_parts : (a b : Bool) → (a || b) ≡ true → (a ≡ true) ⊎ (b ≡ true)
+pub or_parts : (a b : Bool) → (a || b) ≡ true → (a ≡ true) ⊎ (b ≡ true)
 or_parts true b h = inl refl
 or_parts false b h = inr h
 
-or_first : (a b : Bool) → a ≡ true → (a || b) ≡ true
+pub or_first : (a b : Bool) → a ≡ true → (a || b) ≡ true
 or_first true b h = refl
 or_first false b h = absurd (false≢true h)
 
-or_second : (a b : Bool) → b ≡ true → (a || b) ≡ true
+pub or_second : (a b : Bool) → b ≡ true → (a || b) ≡ true
 or_second true b h = refl
 or_second false b h = h
 

@@ -7,4 +7,6 @@ mod Spans
 mod Nexts
 mod Listed
 mod Joins
+mod Members
+mod Seats
 mod Orders

@@ -51,7 +51,7 @@ listed_place t (v ∷ log) = go (is_kept (reading_of t log) v) refl (listed_plac
 
 -- ---- members
 
-counted_incs : (ms : List Member) (i : Inc) (n : ℕ) → incs (counted ms i n) ≡ incs ms
+pub counted_incs : (ms : List Member) (i : Inc) (n : ℕ) → incs (counted ms i n) ≡ incs ms
 counted_incs [] i n = refl
 counted_incs (m ∷ ms) i n = ap (λ l. m.inc ∷ l) (counted_incs ms i n)
 
@@ -179,5 +179,5 @@ listed_seats t (v ∷ log) = go (is_kept (reading_of t log) v) refl (listed_seat
 
 -- ---- those who ever were members
 
-with_inc_more : (xs : List Inc) (i j : Inc) → has_inc (with_inc xs i) j ≡ false → has_inc xs j ≡ false
+pub with_inc_more : (xs : List Inc) (i j : Inc) → has_inc (with_inc xs i) j ≡ false → has_inc xs j ≡ false
 with_inc_more xs i j h = elim (cases_Bool (has_inc xs j)) [ inl q ↦ absurd (false≢true (sym h ∙ with_more xs i j q)) | inr q ↦ q ]
