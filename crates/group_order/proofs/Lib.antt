@@ -9,4 +9,5 @@ mod Listed
 mod Joins
 mod Members
 mod Seats
+mod Entries
 mod Orders
