@@ -10,4 +10,5 @@ mod Joins
 mod Members
 mod Seats
 mod Entries
+mod Begins
 mod Orders
