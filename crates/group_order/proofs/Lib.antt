@@ -11,4 +11,5 @@ mod Members
 mod Seats
 mod Entries
 mod Begins
+mod Agrees
 mod Orders

@@ -45,7 +45,7 @@ cons_end [] x e = absurd (cc e)
 cons_end (y ∷ xs) x e = absurd (cc e)
 
 -- a Welcome comes before all slots
-enters_waits : (t : Setup) (p : Past) (i : Inc) (w : Welcome) → IsDone t p i (Enters w) → Shape t i (life_in p i) → Waits (life_in p i)
+pub enters_waits : (t : Setup) (p : Past) (i : Inc) (w : Welcome) → IsDone t p i (Enters w) → Shape t i (life_in p i) → Waits (life_in p i)
 enters_waits t p i w h o = elim (cases_Bool (is_founder t i)) [ inl f ↦ absurd (false≢true (sym ((o.founder f).begun (h.0).begun) ∙ off)) | inr f ↦ waits f ]
   where
     off : is_offline (state (life_in p i)) ≡ true
