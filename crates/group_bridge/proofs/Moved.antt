@@ -323,6 +323,9 @@ module _ (e : Event) where
       b : Member
       b = push (Replied (Asked d)) a
 
+      ungiven : is_ask_due a ≡ true → has_give a.life ≡ false
+      ungiven y = let x = and_parts (is_recovering (state a.life)) _ y in let z = and_parts (not (is_some (pending_ask a.life))) _ x.1 in not-true (has_give a.life) (and_parts (not (has_give a.life)) _ z.1).0
+
       sends : is_ask_due a ≡ true → Moves e b (unless_self d (ask_wire a) b)
       sends y =
           let x = and_parts (is_recovering (state a.life)) _ y in
@@ -332,7 +335,7 @@ module _ (e : Event) where
 
       go : (x : Bool) → is_ask_due a ≡ x → Moves e a (elim x [ false ↦ push (Replied NoAskDue) a | true ↦ check_ask (unless_self d (ask_wire a) b) ])
       go false y = Leaves (Replied NoAskDue) a tt
-      go true y = Then (Leaves (Replied (Asked d)) a tt) (Then (sends y) (moves_check_ask (unless_self d (ask_wire a) b)))
+      go true y = Then (Leaves (Replied (Asked d)) a (ungiven y)) (Then (sends y) (moves_check_ask (unless_self d (ask_wire a) b)))
 
   moves_donor_failed : (a : Member) → Moves e a (donor_failed a)
   moves_donor_failed a = either_not _ (Leaves (Replied NoAskPending) a tt) (Then (Leaves (Replied Failed) a tt) (moves_fail_ask (push (Replied Failed) a)))

@@ -29,6 +29,8 @@ use Rattle.group_rules.specs.declared.requests.Request.TheVariants.{Begin}
 use Rattle.group_rules.specs.declared.answers.Answer.{Answer}
 use Rattle.group_rules.specs.declared.answers.Answer.TheVariants.{Committed as CommittedAs}
 use Rattle.group_rules.specs.declared.marks.Cause.TheVariants.{OwnOnline}
+use Rattle.group_rules.specs.declared.marks.Reply.{Reply}
+use Rattle.group_rules.specs.declared.marks.Reply.TheVariants.{Asked}
 use Rattle.txn_forms.specs.Bodies.{body_bytes}
 use Rattle.group_rules.specs.Events.{Did, Founds, Starts, Came, Made, Took, Skips, Done, Committed, Is, Gave, Answered, Begun, Changed, Replied, Called, AsksCommit, Ends, Enters, Restores, AskFails, Event, Hears, Calls, Life, Setup, Entry, Cert}
 use Rattle.group_rules.specs.Life.{state, is_up, is_offline, is_recovering, executed, certs, last_made, is_arrival, has_give, entered, entry_at, upto}
@@ -179,6 +181,11 @@ abbrev pub IsAnswered : Inc → Life → Answer → Type 0
 IsAnswered i l (CommittedAs g) = IsAcknowledged i l g
 IsAnswered i l x = Unit {0}
 
+-- an ask is answered so where no Give was taken up
+abbrev pub IsReplied : Life → Reply → Type 0
+IsReplied l (Asked d) = has_give l ≡ false
+IsReplied l x = Unit {0}
+
 -- (Own values, slots taken, a Welcome and the beginning of a history are left otherwise.)
 abbrev pub IsLeft : Event → Setup → Inc → Life → Did → Type 0
 IsLeft e s i l Founds = ⊥
@@ -194,7 +201,7 @@ IsLeft e s i l (Gave p n) = Unit {0}
 IsLeft e s i l (Answered t x) = IsAnswered i l x
 IsLeft e s i l (Begun t set sync) = IsBegun s i l t set sync
 IsLeft e s i l (Changed t c) = IsChanged i l t c
-IsLeft e s i l (Replied r) = Unit {0}
+IsLeft e s i l (Replied r) = IsReplied l r
 IsLeft e s i l (Called t v w) = (phase l t ≡ Free) × ((past : Life) × (l ≡ Came (Calls t (Begin v w)) ∷ past))
 IsLeft e s i l (AsksCommit t id) = IsOpen l t
 IsLeft e s i l (Ends t) = Unit {0}

@@ -24,16 +24,17 @@ use Rattle.group_rules.specs.Taking.{takes_slots, entry_of}
 use Rattle.group_rules.specs.OneList.{reading_of, value_at, before_slot, listed}
 use Rattle.group_rules.specs.World.{Past, Does, Writes, Halts, life_in}
 use Rattle.group_runs.specs.Runs.{IsSetup, is_founder, AllDid, IsDone}
-use Rattle.group_order.specs.OneLog.{TakenAs, SkippedAs, Follows}
+use Rattle.group_order.specs.OneLog.{is_member_of, IsReady, AgreesWith, Viewed, AgreesAt, SkippedAs}
+use Rattle.group_order.proofs.Steps.{SlotTaken, Steps}
 use Rattle.group_order.proofs.Incs.{inc_same, inc_is}
 use Rattle.group_order.proofs.Flips.{before_next}
 use Rattle.group_order.proofs.Shapes.{Shape, shapes, takes_after}
 use Rattle.group_order.proofs.Spans.{enters_waits}
 use Rattle.group_order.proofs.Nexts.{did_past, done_at}
 use Rattle.group_order.proofs.Listed.{listed_seats}
-use Rattle.group_order.proofs.Members.{is_member_of, members_were}
+use Rattle.group_order.proofs.Members.{members_were}
 use Rattle.group_order.proofs.Seats.{Distinct, members_distinct}
-use Rattle.group_order.proofs.Entries.{IsReady, AgreesWith, took_agrees, skipped_agrees}
+use Rattle.group_order.proofs.Entries.{took_agrees, skipped_agrees}
 use Rattle.group_order.proofs.Begins.{welcome_view, waits_none, parts_given, parts_missing, places_rise}
 
 some_none : {A : Type 0} (x : A) → Some x ≡ None → ⊥
@@ -127,16 +128,9 @@ pub record GiveFrom (t : Setup) (q : Past) (i : Inc) (g : Give) : Type 0 where
   pub place : add.place ≡ welcome.place
   pub ungiven : has_give (life_in q i) ≡ false
 
--- a history that has begun with a view
-abbrev pub Viewed : Setup → Inc → Life → Type 0
-Viewed t i l = ((is_founder t i ≡ true) × (0 < length l)) ⊎ ((w : Welcome) × (entered l ≡ Some w))
-
-module _ (t : Setup) (good : IsSetup t) (log : List Value) (past : Past) (done : AllDid (IsDone t) past) (follows : AllDid (Follows t log) past)
+module _ (t : Setup) (good : IsSetup t) (log : List Value) (past : Past) (done : AllDid (IsDone t) past) (follows : AllDid (Steps t log) past)
     (welcome : (q : Past) (i : Inc) (u : Welcome) → IsPast (Does i (Enters u) ∷ q) past → WelcomeFrom t log q u)
     (give : (q : Past) (i : Inc) (g : Give) (cs : List Cert) → IsPast (Does i (Restores g cs) ∷ q) past → GiveFrom t q i g) where
-  abbrev pub AgreesAt : Past → Inc → Type 0
-  AgreesAt q i = AgreesWith t i (life_in q i) (before_slot log (suc (last_slot (life_in q i))))
-
   here : (i : Inc) (d : Did) (p : Past) → life_in (Does i d ∷ p) i ≡ d ∷ life_in p i
   here i d p = ap (λ b. elim b [ true ↦ d ∷ life_in p i | false ↦ life_in p i ]) (inc_same i)
 
@@ -147,7 +141,7 @@ module _ (t : Setup) (good : IsSetup t) (log : List Value) (past : Past) (done :
   shape_here p i j d k = shapes t p (did_past (IsDone t) past (Does j d ∷ p) done k).1 i
 
   -- one that takes slots has a view, and is ready
-  taker : (p : Past) (i : Inc) (d : Did) → IsPast (Does i d ∷ p) past → takes_slots (life_in p i) ≡ true → 1 < length (life_in p i) → Viewed t i (life_in p i) × IsReady t i (life_in p i)
+  pub taker : (p : Past) (i : Inc) (d : Did) → IsPast (Does i d ∷ p) past → takes_slots (life_in p i) ≡ true → 1 < length (life_in p i) → Viewed t i (life_in p i) × IsReady t i (life_in p i)
   taker p i d k ready begun = elim (cases_Bool (is_founder t i)) [
     | inl f ↦ (inl (f, omega (arith, begun)), inl f)
     | inr f ↦ (let r = takes_after t i (life_in p i) (shape_here p i i d k) ready f in (inr (r.0, r.1), inr r.2))
@@ -155,15 +149,15 @@ module _ (t : Setup) (good : IsSetup t) (log : List Value) (past : Past) (done :
 
   -- ---- one thing more
 
-  module _ (p : Past) (ih : (q : Past) → IsPast q p → (i : Inc) → Viewed t i (life_in q i) → AgreesAt q i) (j : Inc) where
+  module _ (p : Past) (ih : (q : Past) → IsPast q p → (i : Inc) → Viewed t i (life_in q i) → AgreesAt t log q i) (j : Inc) where
     abbrev l : Life
     l = life_in p j
 
     took_one : (e : Entry) → IsPast (Does j (Took e) ∷ p) past → AgreesWith t j (Took e ∷ life_in p j) (before_slot log (suc e.slot))
     took_one e k = subst (λ z. AgreesWith t j (Took e ∷ life_in p j) z) (sym longer) (subst (λ y. AgreesWith t j (Took y ∷ life_in p j) (e.value ∷ before_slot log e.slot)) (sym f.is_it) (took_agrees t j (life_in p j) (before_slot log e.slot) e.value f.place f.effect f.kept a v.1 e.slot))
       where
-        f : TakenAs t log p j e
-        f = done_at (Follows t log) past p j (Took e) follows k
+        f : SlotTaken t log p j e
+        f = done_at (Steps t log) past p j (Took e) follows k
 
         h : IsDone t p j (Took e)
         h = done_here p j (Took e) k
@@ -181,7 +175,7 @@ module _ (t : Setup) (good : IsSetup t) (log : List Value) (past : Past) (done :
     skipped_one s u k = subst (λ z. AgreesWith t j (Skips s u ∷ life_in p j) z) (sym longer) (skipped_agrees t j (life_in p j) (before_slot log s) s u f.skipped a)
       where
         f : SkippedAs t log p j s u
-        f = done_at (Follows t log) past p j (Skips s u) follows k
+        f = done_at (Steps t log) past p j (Skips s u) follows k
 
         h : IsDone t p j (Skips s u)
         h = done_here p j (Skips s u) k
@@ -260,11 +254,11 @@ module _ (t : Setup) (good : IsSetup t) (log : List Value) (past : Past) (done :
           earlier : IsPast (Does w.who (Took w.add) ∷ w.before) p
           earlier = past_of (Does j (Enters f.welcome) ∷ q.0) (Does w.who (Took w.add) ∷ w.before) p q.1 (inr w.earlier)
 
-          x : TakenAs t log w.before w.who w.add
-          x = done_at (Follows t log) past w.before w.who (Took w.add) follows (wider _ earlier)
+          x : SlotTaken t log w.before w.who w.add
+          x = done_at (Steps t log) past w.before w.who (Took w.add) follows (wider _ earlier)
 
-          y : TakenAs t log f.before f.giver f.add
-          y = done_at (Follows t log) past f.before f.giver (Took f.add) follows (wider _ f.earlier)
+          y : SlotTaken t log f.before f.giver f.add
+          y = done_at (Steps t log) past f.before f.giver (Took f.add) follows (wider _ f.earlier)
 
           joiner : is_founder t j ≡ false
           joiner = elim (cases_Bool (is_founder t j)) [ inl z ↦ absurd (some_none f.welcome (sym f.entered ∙ ((shape_here p j j (Restores g cs) k).founder z).entered)) | inr z ↦ z ]
@@ -371,17 +365,17 @@ module _ (t : Setup) (good : IsSetup t) (log : List Value) (past : Past) (done :
       one_agrees (Came (Calls x y)) k v = let a = ih p (past_self p) j (still_viewed (Came (Calls x y)) k v ((done_here p j (Came (Calls x y)) k).0).begun refl) in record { view = a.view; place = a.place; fresh = a.fresh; parts = a.parts }
       one_agrees (Came (Operates x)) k v = let a = ih p (past_self p) j (still_viewed (Came (Operates x)) k v ((done_here p j (Came (Operates x)) k).0).begun refl) in record { view = a.view; place = a.place; fresh = a.fresh; parts = a.parts }
 
-  pub all_agree : (p : Past) → ((q : Past) → IsPast q p → IsPast q past) → (q : Past) → IsPast q p → (i : Inc) → Viewed t i (life_in q i) → AgreesAt q i
-  all_agree [] wider q k i v = subst (λ y. Viewed t i (life_in y i) → AgreesAt y i) (sym k) none v
+  pub all_agree : (p : Past) → ((q : Past) → IsPast q p → IsPast q past) → (q : Past) → IsPast q p → (i : Inc) → Viewed t i (life_in q i) → AgreesAt t log q i
+  all_agree [] wider q k i v = subst (λ y. Viewed t i (life_in y i) → AgreesAt t log y i) (sym k) none v
     where
-      none : Viewed t i [] → AgreesAt [] i
+      none : Viewed t i [] → AgreesAt t log [] i
       none (inl z) = absurd (omega (arith, z.1))
       none (inr z) = absurd (some_none z.0 (sym z.1))
   all_agree (x ∷ p) wider q (inr k) i v = all_agree p (λ y z. wider y (inr z)) q k i v
-  all_agree (Writes n x ∷ p) wider q (inl e) i v = subst (λ y. Viewed t i (life_in y i) → AgreesAt y i) (sym e) (λ z. all_agree p (λ y r. wider y (inr r)) p (past_self p) i z) v
-  all_agree (Halts n ∷ p) wider q (inl e) i v = subst (λ y. Viewed t i (life_in y i) → AgreesAt y i) (sym e) (λ z. all_agree p (λ y r. wider y (inr r)) p (past_self p) i z) v
-  all_agree (Does j d ∷ p) wider q (inl e) i v = subst (λ y. Viewed t i (life_in y i) → AgreesAt y i) (sym e) (go (inc_eq j i) refl (λ y z. all_agree p (λ y r. wider y (inr r)) y z)) v
+  all_agree (Writes n x ∷ p) wider q (inl e) i v = subst (λ y. Viewed t i (life_in y i) → AgreesAt t log y i) (sym e) (λ z. all_agree p (λ y r. wider y (inr r)) p (past_self p) i z) v
+  all_agree (Halts n ∷ p) wider q (inl e) i v = subst (λ y. Viewed t i (life_in y i) → AgreesAt t log y i) (sym e) (λ z. all_agree p (λ y r. wider y (inr r)) p (past_self p) i z) v
+  all_agree (Does j d ∷ p) wider q (inl e) i v = subst (λ y. Viewed t i (life_in y i) → AgreesAt t log y i) (sym e) (go (inc_eq j i) refl (λ y z. all_agree p (λ y r. wider y (inr r)) y z)) v
     where
-      go : (b : Bool) → inc_eq j i ≡ b → ((q : Past) → IsPast q p → (i : Inc) → Viewed t i (life_in q i) → AgreesAt q i) → Viewed t i (elim b [ true ↦ d ∷ life_in p i | false ↦ life_in p i ]) → AgreesWith t i (elim b [ true ↦ d ∷ life_in p i | false ↦ life_in p i ]) (before_slot log (suc (last_slot (elim b [ true ↦ d ∷ life_in p i | false ↦ life_in p i ]))))
+      go : (b : Bool) → inc_eq j i ≡ b → ((q : Past) → IsPast q p → (i : Inc) → Viewed t i (life_in q i) → AgreesAt t log q i) → Viewed t i (elim b [ true ↦ d ∷ life_in p i | false ↦ life_in p i ]) → AgreesWith t i (elim b [ true ↦ d ∷ life_in p i | false ↦ life_in p i ]) (before_slot log (suc (last_slot (elim b [ true ↦ d ∷ life_in p i | false ↦ life_in p i ]))))
       go true c ih z = one_agrees p ih i (λ y r. wider y (inr r)) d (subst (λ y. IsPast (Does y d ∷ p) past) (inc_is j i c) (wider (Does j d ∷ p) (inl refl))) z
       go false c ih z = ih p (past_self p) i z

@@ -20,26 +20,17 @@ use Rattle.group_rules.specs.declared.marks.Effect.TheVariants.{Plain, Void, Unr
 use Rattle.group_rules.specs.View.{View, void_if, effect_in, changed_view, next_view, settled}
 use Rattle.group_rules.specs.Events.{Took, Skips, Life, Setup, Entry, Cert}
 use Rattle.group_rules.specs.Life.{view, taken, certs, has_give}
+use Rattle.group_rules.specs.Legal.{SameEntry}
 use Rattle.group_rules.specs.Parts.{open_after, open_parts, held, is_void_part}
 use Rattle.group_rules.specs.Certifier.{certifier, verdict}
 use Rattle.group_rules.specs.Taking.{effect_of, entry_of}
 use Rattle.group_rules.specs.OneList.{scan, scan_effect, scan_entry, listed_by, listed, reading_of}
 use Rattle.group_runs.specs.Runs.{is_founder}
+use Rattle.group_order.specs.OneLog.{is_member_of, IsReady, AgreesWith}
 use Rattle.group_order.proofs.Incs.{inc_is}
 use Rattle.group_order.proofs.Joins.{kept_is}
 use Rattle.group_order.proofs.Listed.{listed_place}
-use Rattle.group_order.proofs.Members.{is_member_of, kept_origin, members_were, new_or_old, ever_before, new_has_none}
-
--- it takes slots: a founder, or one that has its Give
-abbrev pub IsReady : Setup → Inc → Life → Type 0
-IsReady t i l = (is_founder t i ≡ true) ⊎ (has_give l ≡ true)
-
--- The view, the place and the open parts of a history are those of the list.
-pub record AgreesWith (t : Setup) (i : Inc) (l : Life) (log : List Value) : Type 0 where
-  pub view : view t l ≡ view t (listed t log)
-  pub place : taken l ≡ (reading_of t log).place
-  pub fresh : (o : Inc) → has_inc (reading_of t log).ever o ≡ false → open_parts l o ≡ None
-  pub parts : IsReady t i l → (o : Inc) → is_member_of (reading_of t log) o ≡ true → open_parts l o ≡ open_parts (listed t log) o
+use Rattle.group_order.proofs.Members.{kept_origin, members_were, new_or_old, ever_before, new_has_none}
 
 -- ---- effects, but for verdicts
 
@@ -163,6 +154,29 @@ module _ (t : Setup) (i : Inc) (l : Life) (log : List Value) (v : Value) (place 
 
     pub took_agrees : AgreesWith t i (Took (entry_of t l s place effect v) ∷ l) (v ∷ log)
     took_agrees = record { view = view_next; place = place_next; fresh = fresh_next; parts = λ r o h. parts_next o h }
+
+    -- the entry is that of the list but for its verdict
+    not_write : (w : What) (q : Option OpenParts) (h : Option Body) (f g : Txn → Effect) (x : View) → ((y : Txn) → h ≡ Some (Writes y) → ⊥) → effect_by x f effect w q h ≡ effect_by x g effect w q h
+    not_write w q None f g x n = refl
+    not_write w q (Some (Writes y)) f g x n = absurd (n y refl)
+    not_write w q (Some (Prepared y)) f g x n = refl
+    not_write w q (Some Sync) f g x n = refl
+    not_write w q (Some (Executed y)) f g x n = refl
+    not_write w q (Some (Arrives y)) f g x n = refl
+    not_write w q (Some (Switches y)) f g x n = refl
+    not_write w q (Some (Appoints y)) f g x n = refl
+    not_write w q (Some (PartOf y)) f g x n = refl
+
+    pub same_entry : s ≡ suc (length log) → SameEntry (scan_entry t (listed t log) (suc (length log)) place effect v) (entry_of t l s place effect v)
+    same_entry n = record { slot = sym n; value = refl; holds = sym same_holds; effect = same_effect }
+      where
+        same_effect : ((x : Txn) → held (open_parts l v.id.origin) v.what ≡ Some (Writes x) → ⊥) → (scan_entry t (listed t log) (suc (length log)) place effect v).effect ≡ (entry_of t l s place effect v).effect
+        same_effect none =
+            scan_is t (listed t log) effect v (open_parts (listed t log) v.id.origin) (held (open_parts (listed t log) v.id.origin) v.what)
+            ∙ (ap (λ y. effect_by y (λ x. scan t.limits (certs (listed t log)) v.id.origin x) effect v.what (open_parts (listed t log) v.id.origin) (held (open_parts (listed t log) v.id.origin) v.what)) (sym a.view)
+            ∙ (ap (λ q. effect_by (view t l) (λ x. scan t.limits (certs (listed t log)) v.id.origin x) effect v.what q (held q v.what)) (sym same_parts)
+            ∙ (not_write v.what (open_parts l v.id.origin) (held (open_parts l v.id.origin) v.what) (λ x. scan t.limits (certs (listed t log)) v.id.origin x) (λ x. verdict t.limits (certifier t l) v.id.origin x) (view t l) none
+            ∙ sym (effect_is t l effect v (open_parts l v.id.origin) (held (open_parts l v.id.origin) v.what)))))
 
 -- ---- a value skipped
 

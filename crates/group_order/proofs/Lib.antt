@@ -9,7 +9,9 @@ mod Listed
 mod Joins
 mod Members
 mod Seats
+mod Steps
 mod Entries
 mod Begins
 mod Agrees
+mod Lookups
 mod Orders

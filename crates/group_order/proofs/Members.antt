@@ -21,6 +21,7 @@ use Rattle.group_rules.specs.Parts.{open_parts}
 use Rattle.group_rules.specs.Steps.{group_of}
 use Rattle.group_rules.specs.OneList.{reading_of, scan_entry, listed_by, listed}
 use Rattle.group_runs.specs.Runs.{Apart, IsSetup}
+use Rattle.group_order.specs.OneLog.{is_member_of}
 use Rattle.group_order.proofs.Incs.{inc_same, inc_is}
 use Rattle.group_order.proofs.Adds.{with_more, with_here, or_parts, or_first, or_second}
 use Rattle.group_order.proofs.Listed.{counted_incs, with_inc_more}
@@ -56,9 +57,6 @@ member_left (m ∷ ms) i j h = go (not (inc_eq m.inc i)) h (member_left ms i j)
     go false q k = or_second (inc_eq m.inc j) (has_inc (incs ms) j) (k q)
 
 -- ---- members were added once
-
-abbrev pub is_member_of : Reading → Inc → Bool
-is_member_of r o = has_inc (incs r.members) o
 
 pub counted_has : (r : Reading) (v : Value) (o : Inc) → is_member_of (kept r v) o ≡ is_member_of r o
 counted_has r v o = ap (λ l. has_inc l o) (counted_incs r.members v.id.origin v.id.number)

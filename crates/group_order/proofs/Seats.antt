@@ -18,10 +18,11 @@ use Rattle.group_rules.specs.View.{View, seated, seat_in, no_seat, shown}
 use Rattle.group_rules.specs.Steps.{group_of}
 use Rattle.group_rules.specs.OneList.{reading_of}
 use Rattle.group_runs.specs.Runs.{Apart, IsSetup}
+use Rattle.group_order.specs.OneLog.{is_member_of}
 use Rattle.group_order.proofs.Incs.{inc_same, inc_is}
 use Rattle.group_order.proofs.Adds.{or_parts, or_first, or_second}
 use Rattle.group_order.proofs.Listed.{counted_incs}
-use Rattle.group_order.proofs.Members.{by_read, is_member_of, counted_has, member_put, member_left, members_were}
+use Rattle.group_order.proofs.Members.{by_read, counted_has, member_put, member_left, members_were}
 
 -- ---- distinct
 

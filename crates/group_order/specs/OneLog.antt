@@ -1,17 +1,21 @@
 -- The one log of a run: each slot that any incarnation takes or skips stands in it, with what it became there.
-use Rattle.std.specs.Prelude.{◌≡◌, ◌<◌, ℕ, suc, Bool, Some, List, length}
+use Rattle.std.specs.Prelude.{◌≡◌, ◌⊎◌, ◌<◌, ℕ, suc, Bool, true, false, Some, None, List, length}
+use Rattle.gr_ids.specs.Names.{has_inc}
 use Rattle.gr_ids.specs.declared.names.Inc.{Inc}
 use Rattle.slot_values.specs.declared.value.Value.{Value}
-use Rattle.slot_values.specs.Log.{became}
+use Rattle.slot_values.specs.Log.{Reading, incs, became}
 use Rattle.slot_values.specs.declared.kept.Kept.TheVariants.{At as KeptAt, Skipped as IsSkipped}
 use Rattle.node_rules.specs.declared.taken.Taken.{Taken}
-use Rattle.group_rules.specs.Events.{Did, Took, Skips, Enters, Setup, Entry}
-use Rattle.group_rules.specs.Legal.{last_slot, AddsInc, WasMade}
+use Rattle.paxos_forms.specs.declared.welcome.Welcome.{Welcome}
+use Rattle.group_rules.specs.Events.{Did, Took, Skips, Enters, Life, Setup, Entry}
+use Rattle.group_rules.specs.Life.{view, taken, entry_at, entered, has_give}
+use Rattle.group_rules.specs.Parts.{open_parts}
+use Rattle.group_rules.specs.Legal.{IsPast, DidAt, last_slot, AddsInc, WasMade, SameEntry}
 use Rattle.group_rules.specs.Taking.{entry_of}
 use Rattle.group_rules.specs.World.{Past, Move, world_after, life_in}
-use Rattle.group_rules.specs.OneList.{reading_of, value_at, before_slot}
+use Rattle.group_rules.specs.OneList.{listed, reading_of, value_at, before_slot}
 use Rattle.group_bridge.specs.Left.{taken_left}
-use Rattle.group_runs.specs.Runs.{IsSetup, AllDid, OfSlots}
+use Rattle.group_runs.specs.Runs.{IsSetup, is_founder, AllDid, OfSlots}
 
 -- what was taken stands in the log (the last slot first), and became what it becomes after the log before it
 pub record OnLog (t : Setup) (log : List Value) (y : Taken) : Type 0 where
@@ -25,6 +29,30 @@ pub record OnLog (t : Setup) (log : List Value) (y : Taken) : Type 0 where
 abbrev pub LeftBy : Setup → List Value → Past → Inc → Did → Type 0
 LeftBy t log p i d = (y : Taken) × (d ≡ taken_left t (life_in p i) y) × OnLog t log y
 
+-- ---- what a history has of the list that a log gives
+
+-- it takes slots: a founder, or one that has its Give
+abbrev pub IsReady : Setup → Inc → Life → Type 0
+IsReady t i l = (is_founder t i ≡ true) ⊎ (has_give l ≡ true)
+
+abbrev pub is_member_of : Reading → Inc → Bool
+is_member_of r o = has_inc (incs r.members) o
+
+-- The view, the place and the open parts of a history are those of the list.
+pub record AgreesWith (t : Setup) (i : Inc) (l : Life) (log : List Value) : Type 0 where
+  pub view : view t l ≡ view t (listed t log)
+  pub place : taken l ≡ (reading_of t log).place
+  pub fresh : (o : Inc) → has_inc (reading_of t log).ever o ≡ false → open_parts l o ≡ None
+  pub parts : IsReady t i l → (o : Inc) → is_member_of (reading_of t log) o ≡ true → open_parts l o ≡ open_parts (listed t log) o
+
+-- a history that has begun with a view: that of a founder, or of one that was welcomed
+abbrev pub Viewed : Setup → Inc → Life → Type 0
+Viewed t i l = ((is_founder t i ≡ true) × (0 < length l)) ⊎ ((w : Welcome) × (entered l ≡ Some w))
+
+-- with the list up to its last slot
+abbrev pub AgreesAt : Setup → List Value → Past → Inc → Type 0
+AgreesAt t log q i = AgreesWith t i (life_in q i) (before_slot log (suc (last_slot (life_in q i))))
+
 -- ---- how each incarnation follows it
 
 -- A slot that is taken holds a value that was made before; what is left is the entry that the rules give where the value is kept.
@@ -36,6 +64,8 @@ pub record TakenAs (t : Setup) (log : List Value) (p : Past) (i : Inc) (e : Entr
   pub effect : Bool
   pub kept : KeptAt place effect ≡ became (reading_of t (before_slot log e.slot)) e.value
   pub is_it : e ≡ entry_of t (life_in p i) e.slot place effect e.value
+  -- the entry of the list at its place, but for its verdict
+  pub listed : (x : Entry) × (entry_at (listed t log) e.place ≡ Some x) × SameEntry x e
 
 pub record SkippedAs (t : Setup) (log : List Value) (p : Past) (i : Inc) (slot : ℕ) (v : Value) : Type 0 where
   pub value : value_at log slot ≡ Some v
@@ -49,5 +79,15 @@ Follows t log p i (Skips s v) = SkippedAs t log p i s v
 Follows t log p i (Enters w) = AddsInc i (value_at log w.slot)
 Follows t log p i d = Unit {0}
 
+-- each slot of the log was taken or skipped by some incarnation
+abbrev pub NoOther : List Value → Past → Type 0
+NoOther log w = (s : ℕ) (v : Value) → value_at log s ≡ Some v → (i : Inc) × (p : Past) × (((e : Entry) × (e.slot ≡ s) × DidAt w i (Took e) p) ⊎ DidAt w i (Skips s v) p)
+
+pub record OneLogOf (t : Setup) (w : Past) : Type 0 where
+  pub log : List Value
+  pub follows : AllDid (Follows t log) w
+  pub no_other : NoOther log w
+  pub agrees : (q : Past) → IsPast q w → (i : Inc) → Viewed t i (life_in q i) → AgreesAt t log q i
+
 abbrev pub EveryRunHasOne : Type 0
-EveryRunHasOne = (ms : List Move) (t : Setup) → (world_after ms).setup ≡ Some t → IsSetup t → (log : List Value) × AllDid (Follows t log) (world_after ms).past
+EveryRunHasOne = (ms : List Move) (t : Setup) → (world_after ms).setup ≡ Some t → IsSetup t → OneLogOf t (world_after ms).past
