@@ -1,7 +1,7 @@
 -- An incarnation is added once, so the slot of its Add is known from any log that has it.
-use Rattle.std.proofs.Common.{eqb, leb, ltb, append_assoc, ◌≡◌, ◌⊎◌, inl, inr, ℕ, zero, suc, ◌+◌, ◌-◌, ◌≤◌, ◌<◌, Bool, true, false, cond, not, ◌&&◌, ◌||◌, Option, Some, None, List, [], ◌∷◌, ◌++◌, refl, sym, ap, subst, ◌∙◌, length, take, drop, length-append, take-append-drop, arith}
-use Rattle.std.specs.Prelude.{slice_get, fold, if◌then◌else◌}
-use Rattle.std.proofs.lemmas.Bool.{false≢true, cases_Bool, and_parts, cond_both, leb-true, leb-false, not-true}
+use Rattle.std.proofs.Common.{ltb, ◌≡◌, ◌⊎◌, inl, inr, ℕ, suc, ◌≤◌, ◌<◌, Bool, true, false, cond, not, ◌||◌, List, [], ◌∷◌, ◌++◌, refl, sym, ap, subst, ◌∙◌, length, take, drop, length-append, take-append-drop, arith}
+use Rattle.std.specs.Prelude.{fold, if◌then◌else◌}
+use Rattle.std.proofs.lemmas.Bool.{false≢true, cases_Bool, and_parts, cond_both, leb-true, leb-false}
 use Rattle.std.proofs.lemmas.List.Sums.{fold-append}
 use Rattle.gr_ids.specs.Names.{inc_eq, inc_lt, has_inc}
 use Rattle.gr_ids.specs.declared.names.Inc.{Inc}
@@ -13,7 +13,7 @@ use Rattle.slot_values.specs.Log.{Group, Reading, founded, is_kept, has_effect, 
 use Rattle.node_rules.specs.Chosen.{Cast, IsChosenLog}
 use Rattle.order_laws.specs.Laws.{AddedIn}
 use Rattle.group_order.proofs.Incs.{inc_same, inc_is}
-use Rattle.group_order.proofs.Flips.{get_take, take_less, take_whole}
+use Rattle.group_order.proofs.Flips.{take_less, take_whole}
 
 -- ---- the incarnations that ever were members
 

@@ -1,26 +1,25 @@
 -- Every history agrees with the list that the log gives up to its last slot.
-use Rattle.std.proofs.Common.{eqb, eq-eqb, ltb, leb, ◌≡◌, ◌⊎◌, inl, inr, ℕ, zero, suc, ◌+◌, ◌≤◌, ◌<◌, Bool, true, false, Option, Some, None, List, [], ◌∷◌, refl, sym, ap, subst, ◌∙◌, length, map, arith}
-use Rattle.std.specs.Prelude.{◌==◌, if◌then◌else◌}
+use Rattle.std.proofs.Common.{ltb, ◌≡◌, inl, inr, ℕ, suc, ◌+◌, ◌<◌, Bool, true, false, Some, None, List, [], ◌∷◌, refl, sym, ap, subst, ◌∙◌, length, map, arith}
+use Rattle.std.specs.Prelude.{if◌then◌else◌}
 use Rattle.std.proofs.lemmas.Bool.{false≢true, cases_Bool, leb-true, leb-false, le-leb}
 use Rattle.gr_ids.specs.Names.{inc_eq, has_inc}
 use Rattle.gr_ids.specs.declared.names.Inc.{Inc}
 use Rattle.node_rules.specs.Node.{Node}
 use Rattle.node_rules.specs.Welcoming.{welcome_of}
 use Rattle.slot_values.specs.declared.value.Value.{Value}
-use Rattle.slot_values.specs.declared.kept.Kept.{Kept}
 use Rattle.slot_values.specs.declared.kept.Kept.TheVariants.{At as KeptAt, Skipped as IsSkipped}
 use Rattle.slot_values.specs.Log.{Reading, Turns, incs, is_kept, has_effect, became}
 use Rattle.paxos_forms.specs.declared.welcome.Welcome.{Welcome}
 use Rattle.paxos_forms.specs.declared.welcome.WelcomeMember.{WelcomeMember}
 use Rattle.paxos_forms.specs.declared.recovery.Give.{Give}
-use Rattle.group_rules.specs.View.{View, seated, shown}
+use Rattle.group_rules.specs.View.{seated, shown}
 use Rattle.group_rules.specs.Events.{Did, Founds, Starts, Came, Made, Took, Skips, Done, Committed, Is, Gave, Answered, Begun, Changed, Replied, Called, AsksCommit, Ends, Enters, Restores, AskFails, Hears, Ticks, Works, Calls, Operates, Life, Setup, Entry, Cert}
-use Rattle.group_rules.specs.Life.{state, is_offline, view, view_told, taken, entered, has_give}
+use Rattle.group_rules.specs.Life.{state, is_offline, view, entered, has_give}
 use Rattle.group_rules.specs.Legal.{IsPast, last_slot}
 use Rattle.group_rules.specs.Parts.{open_parts}
 use Rattle.group_rules.specs.Recovery.{all_parts}
 use Rattle.txn_forms.specs.Parts.{parts_of}
-use Rattle.group_rules.specs.Taking.{takes_slots, entry_of}
+use Rattle.group_rules.specs.Taking.{takes_slots}
 use Rattle.group_rules.specs.OneList.{reading_of, value_at, before_slot, listed}
 use Rattle.group_rules.specs.World.{Past, Does, Writes, Halts, life_in}
 use Rattle.group_runs.specs.Runs.{IsSetup, is_founder, AllDid, IsDone}
@@ -285,10 +284,10 @@ module _ (t : Setup) (good : IsSetup t) (log : List Value) (past : Past) (done :
           slot_is : f.add.slot ≡ last_slot (life_in p j)
           slot_is = elim (cases_Bool (ltb f.add.slot f.welcome.slot)) [
             | inl z ↦ (let lt = leb-true (suc f.add.slot) f.welcome.slot z in let up = places_rise t log (suc f.add.slot) f.welcome.slot (omega (arith, lt)) in
-              absurd (omega (arith, up, same, after_give, before_welcome)))
+                absurd (omega (arith, up, same, after_give, before_welcome)))
             | inr z ↦ elim (cases_Bool (ltb f.welcome.slot f.add.slot)) [
               | inl r ↦ (let lt = leb-true (suc f.welcome.slot) f.add.slot r in let up = places_rise t log (suc f.welcome.slot) f.add.slot (omega (arith, lt)) in
-                absurd (omega (arith, up, same, before_give, after_welcome)))
+                  absurd (omega (arith, up, same, before_give, after_welcome)))
               | inr r ↦ (let a1 = leb-false (suc f.add.slot) f.welcome.slot z in let a2 = leb-false (suc f.welcome.slot) f.add.slot r in omega (arith, a1, a2, asks))
             ]
           ]

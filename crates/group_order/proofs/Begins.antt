@@ -1,36 +1,34 @@
 -- How a joiner begins: its Welcome and its Give tell what the history of their sender was.
-use Rattle.std.proofs.Common.{eqb, eq-eqb, ltb, leb, append_assoc, ◌≡◌, ◌⊎◌, inl, inr, ℕ, zero, suc, ◌+◌, ◌≤◌, ◌<◌, Bool, true, false, cond, not, ◌&&◌, ◌||◌, Option, Some, None, List, [], ◌∷◌, ◌++◌, refl, sym, ap, subst, ◌∙◌, length, map, arith}
-use Rattle.std.specs.Prelude.{◌==◌, if◌then◌else◌}
-use Rattle.std.proofs.lemmas.Bool.{false≢true, cases_Bool, cond_both, eqb-true, leb-true, leb-false}
+use Rattle.std.proofs.Common.{leb, ◌≡◌, ◌⊎◌, inl, inr, ℕ, suc, ◌≤◌, Bool, true, false, ◌||◌, Option, Some, None, List, [], ◌∷◌, ◌++◌, refl, sym, ap, subst, ◌∙◌, length, map, arith}
+use Rattle.std.specs.Prelude.{◌==◌}
+use Rattle.std.proofs.lemmas.Bool.{false≢true, cases_Bool, eqb-true, leb-true, leb-false}
 use Rattle.gr_ids.specs.Names.{inc_eq, has_inc}
 use Rattle.gr_ids.specs.declared.names.Inc.{Inc}
 use Rattle.gr_ids.specs.declared.names.OpenParts.{OpenParts}
 use Rattle.node_rules.specs.declared.seat.Seat.{Seat}
 use Rattle.node_rules.specs.Node.{Node}
 use Rattle.node_rules.specs.Welcoming.{welcome_of}
-use Rattle.slot_values.specs.declared.value.Joiner.{Joiner}
 use Rattle.slot_values.specs.declared.value.Value.{Value}
 use Rattle.slot_values.specs.declared.value.What.{What}
 use Rattle.slot_values.specs.declared.value.What.TheVariants.{Noop, Add, Remove, Body as Says}
 use Rattle.slot_values.specs.declared.member.Member.{Member}
-use Rattle.slot_values.specs.Log.{Reading, Turns, incs, is_kept, has_effect, kept, changed, read}
+use Rattle.slot_values.specs.Log.{Reading, Turns, incs, kept, changed, read}
 use Rattle.slot_values.specs.Turns.{told as turns_at}
 use Rattle.txn_forms.specs.declared.body.Body.{Body}
 use Rattle.txn_forms.specs.declared.body.Body.TheVariants.{Txn as Writes, Prepared, Sync, Executed, Online as Arrives, Mode as Switches, Primary as Appoints, Part as PartOf}
-use Rattle.txn_forms.specs.declared.body.Part.{Part}
-use Rattle.txn_forms.specs.Parts.{is_open, joined_bytes, after_part, parts_of}
+use Rattle.txn_forms.specs.Parts.{is_open, joined_bytes, parts_of}
 use Rattle.paxos_forms.specs.declared.welcome.Welcome.{Welcome}
 use Rattle.paxos_forms.specs.declared.welcome.WelcomeMember.{WelcomeMember}
 use Rattle.group_rules.specs.View.{View, seated, seat_in, shown}
 use Rattle.group_rules.specs.Events.{Did, Founds, Starts, Came, Made, Took, Skips, Done, Committed, Is, Gave, Answered, Begun, Changed, Replied, Called, AsksCommit, Ends, Enters, Restores, AskFails, Life, Setup, Entry}
-use Rattle.group_rules.specs.Life.{view, view_told, taken, has_give, entry_at, upto}
+use Rattle.group_rules.specs.Life.{view_told, has_give, entry_at, upto}
 use Rattle.group_rules.specs.Legal.{IsPast}
 use Rattle.group_rules.specs.Parts.{open_after, open_parts}
 use Rattle.group_rules.specs.Recovery.{all_parts}
-use Rattle.group_rules.specs.OneList.{reading_of, value_at, before_slot, listed}
+use Rattle.group_rules.specs.OneList.{reading_of, before_slot}
 use Rattle.group_rules.specs.World.{Past, Does, Writes as WritesRow, Halts, life_in}
 use Rattle.group_bridge.specs.Moves.{slots_in}
-use Rattle.group_order.proofs.Incs.{inc_same, inc_is}
+use Rattle.group_order.proofs.Incs.{inc_is}
 use Rattle.group_order.proofs.Adds.{or_parts}
 use Rattle.group_order.proofs.Flips.{before_above, before_all}
 use Rattle.group_order.proofs.Members.{by_read}
@@ -238,7 +236,7 @@ part_place : (t : Setup) (log : List Value) (s : ℕ) → (reading_of t (before_
 part_place t [] s = omega arith
 part_place t (v ∷ log) s = elim (cases_Bool (leb s (suc (length log)))) [
   | inl q ↦ (let a = part_place t log s in let b = read_place (reading_of t log) v in
-    subst (λ l. (reading_of t l).place ≤ (reading_of t (v ∷ log)).place) (sym (before_above v log s (leb-true s (suc (length log)) q))) (omega (arith, a, b)))
+      subst (λ l. (reading_of t l).place ≤ (reading_of t (v ∷ log)).place) (sym (before_above v log s (leb-true s (suc (length log)) q))) (omega (arith, a, b)))
   | inr q ↦ subst (λ l. (reading_of t l).place ≤ (reading_of t (v ∷ log)).place) (sym (before_all (v ∷ log) s (leb-false s (suc (length log)) q))) (omega arith)
 ]
 
@@ -246,7 +244,7 @@ pub places_rise : (t : Setup) (log : List Value) (s r : ℕ) → s ≤ r → (re
 places_rise t [] s r h = omega arith
 places_rise t (v ∷ log) s r h = elim (cases_Bool (leb r (suc (length log)))) [
   | inl q ↦ (let a = leb-true r (suc (length log)) q in
-    subst (λ l. (reading_of t l).place ≤ (reading_of t (before_slot (v ∷ log) r)).place) (sym (before_above v log s (omega (arith, a, h))))
-    (subst (λ l. (reading_of t (before_slot log s)).place ≤ (reading_of t l).place) (sym (before_above v log r a)) (places_rise t log s r h)))
+      subst (λ l. (reading_of t l).place ≤ (reading_of t (before_slot (v ∷ log) r)).place) (sym (before_above v log s (omega (arith, a, h))))
+      (subst (λ l. (reading_of t (before_slot log s)).place ≤ (reading_of t l).place) (sym (before_above v log r a)) (places_rise t log s r h)))
   | inr q ↦ subst (λ l. (reading_of t (before_slot (v ∷ log) s)).place ≤ (reading_of t l).place) (sym (before_all (v ∷ log) r (leb-false r (suc (length log)) q))) (part_place t (v ∷ log) s)
 ]

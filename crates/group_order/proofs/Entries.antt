@@ -1,15 +1,13 @@
 -- One slot more: a history that agrees with the list that a log gives agrees with it after the next slot too.
-use Rattle.std.proofs.Common.{eqb, ◌≡◌, ◌⊎◌, inl, inr, ℕ, suc, ◌+◌, ◌≤◌, Bool, true, false, cond, not, Option, Some, None, List, [], ◌∷◌, refl, sym, ap, subst, ◌∙◌, length, arith}
+use Rattle.std.proofs.Common.{◌≡◌, inl, inr, ℕ, suc, ◌+◌, Bool, true, false, Option, Some, None, List, ◌∷◌, refl, sym, ap, subst, ◌∙◌, length}
 use Rattle.std.specs.Prelude.{if◌then◌else◌}
-use Rattle.std.proofs.lemmas.Bool.{false≢true, cases_Bool, cond_both}
+use Rattle.std.proofs.lemmas.Bool.{false≢true, cases_Bool}
 use Rattle.gr_ids.specs.Names.{inc_eq, has_inc}
 use Rattle.gr_ids.specs.declared.names.Inc.{Inc}
 use Rattle.gr_ids.specs.declared.names.OpenParts.{OpenParts}
-use Rattle.slot_values.specs.declared.value.Joiner.{Joiner}
 use Rattle.slot_values.specs.declared.value.Value.{Value}
 use Rattle.slot_values.specs.declared.value.What.{What}
 use Rattle.slot_values.specs.declared.value.What.TheVariants.{Noop, Add, Remove, Body as Says}
-use Rattle.slot_values.specs.declared.kept.Kept.{Kept}
 use Rattle.slot_values.specs.declared.kept.Kept.TheVariants.{At as KeptAt, Skipped as IsSkipped}
 use Rattle.slot_values.specs.Log.{Reading, is_kept, has_effect, kept, changed, read, became}
 use Rattle.txn_forms.specs.declared.body.Txn.{Txn}
@@ -17,15 +15,14 @@ use Rattle.txn_forms.specs.declared.body.Body.{Body}
 use Rattle.txn_forms.specs.declared.body.Body.TheVariants.{Txn as Writes, Prepared, Sync, Executed, Online as Arrives, Mode as Switches, Primary as Appoints, Part as PartOf}
 use Rattle.group_rules.specs.declared.marks.Effect.{Effect}
 use Rattle.group_rules.specs.declared.marks.Effect.TheVariants.{Plain, Void, Unread, Positive, Conflict}
-use Rattle.group_rules.specs.View.{View, void_if, effect_in, changed_view, next_view, settled}
-use Rattle.group_rules.specs.Events.{Took, Skips, Life, Setup, Entry, Cert}
-use Rattle.group_rules.specs.Life.{view, taken, certs, has_give}
+use Rattle.group_rules.specs.View.{View, void_if, effect_in, next_view, settled}
+use Rattle.group_rules.specs.Events.{Took, Skips, Life, Setup, Entry}
+use Rattle.group_rules.specs.Life.{view, taken, certs}
 use Rattle.group_rules.specs.Legal.{SameEntry}
 use Rattle.group_rules.specs.Parts.{open_after, open_parts, held, is_void_part}
 use Rattle.group_rules.specs.Certifier.{certifier, verdict}
 use Rattle.group_rules.specs.Taking.{effect_of, entry_of}
 use Rattle.group_rules.specs.OneList.{scan, scan_effect, scan_entry, listed_by, listed, reading_of}
-use Rattle.group_runs.specs.Runs.{is_founder}
 use Rattle.group_order.specs.OneLog.{is_member_of, IsReady, AgreesWith}
 use Rattle.group_order.proofs.Incs.{inc_is}
 use Rattle.group_order.proofs.Joins.{kept_is}
@@ -143,13 +140,13 @@ module _ (t : Setup) (i : Inc) (l : Life) (log : List Value) (v : Value) (place 
     parts_next : (o : Inc) → is_member_of (reading_of t (v ∷ log)) o ≡ true → open_parts (Took (entry_of t l s place effect v) ∷ l) o ≡ open_parts (listed t (v ∷ log)) o
     parts_next o h = elim (new_or_old (reading_of t log) v o h) [
       | inl m ↦ ap (λ q. elim (inc_eq v.id.origin o) [ true ↦ open_after o (entry_of t l s place effect v).holds q | false ↦ q ]) (a.parts ready o m)
-        ∙ (ap (λ x. elim (inc_eq v.id.origin o) [ true ↦ open_after o x (open_parts (listed t log) o) | false ↦ open_parts (listed t log) o ]) same_holds
-        ∙ sym (ap (λ z. open_parts z o) is_listed))
+          ∙ (ap (λ x. elim (inc_eq v.id.origin o) [ true ↦ open_after o x (open_parts (listed t log) o) | false ↦ open_parts (listed t log) o ]) same_holds
+          ∙ sym (ap (λ z. open_parts z o) is_listed))
       | inr n ↦ ap (λ b. elim b [ true ↦ open_after o (entry_of t l s place effect v).holds (open_parts l o) | false ↦ open_parts l o ]) (other o n)
-        ∙ (a.fresh o n
-        ∙ (sym (new_has_none t log o n)
-        ∙ (sym (ap (λ b. elim b [ true ↦ open_after o (scan_entry t (listed t log) (suc (length log)) place effect v).holds (open_parts (listed t log) o) | false ↦ open_parts (listed t log) o ]) (other o n))
-        ∙ sym (ap (λ z. open_parts z o) is_listed))))
+          ∙ (a.fresh o n
+          ∙ (sym (new_has_none t log o n)
+          ∙ (sym (ap (λ b. elim b [ true ↦ open_after o (scan_entry t (listed t log) (suc (length log)) place effect v).holds (open_parts (listed t log) o) | false ↦ open_parts (listed t log) o ]) (other o n))
+          ∙ sym (ap (λ z. open_parts z o) is_listed))))
     ]
 
     pub took_agrees : AgreesWith t i (Took (entry_of t l s place effect v) ∷ l) (v ∷ log)

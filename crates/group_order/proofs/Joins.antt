@@ -1,32 +1,28 @@
 -- A Welcome comes with the slot of the joiner's own Add, and that slot holds it.
-use Rattle.std.proofs.Common.{eqb, ltb, leb, append_assoc, append-nil, ◌≡◌, ◌⊎◌, inl, inr, ℕ, zero, suc, ◌+◌, ◌-◌, ◌≤◌, ◌<◌, Bool, true, false, cond, not, Option, Some, None, List, [], ◌∷◌, ◌++◌, refl, sym, ap, subst, ◌∙◌, length, take, length-append, arith}
+use Rattle.std.proofs.Common.{ltb, ◌≡◌, inl, inr, ℕ, zero, suc, ◌+◌, ◌-◌, ◌≤◌, ◌<◌, Bool, true, false, not, Some, None, List, [], ◌∷◌, ◌++◌, refl, sym, ap, subst, ◌∙◌, length, take, arith}
 use Rattle.std.specs.Prelude.{slice_get, if◌then◌else◌, IsTrue}
-use Rattle.std.specs.List.{list_any}
-use Rattle.std.proofs.lemmas.Bool.{false≢true, cases_Bool, leb-true, leb-false, not-true}
+use Rattle.std.proofs.lemmas.Bool.{cases_Bool, leb-true, leb-false}
 use Rattle.gr_ids.specs.declared.names.Inc.{Inc}
-use Rattle.gr_ids.specs.declared.names.Ballot.{Ballot}
 use Rattle.slot_values.specs.declared.value.Joiner.{Joiner}
 use Rattle.slot_values.specs.declared.value.Value.{Value}
-use Rattle.slot_values.specs.declared.value.What.{What}
-use Rattle.slot_values.specs.declared.value.What.TheVariants.{Noop, Add, Remove, Body as Says}
+use Rattle.slot_values.specs.declared.value.What.TheVariants.{Add}
 use Rattle.slot_values.specs.declared.kept.Kept.{Kept}
 use Rattle.slot_values.specs.declared.kept.Kept.TheVariants.{At as KeptAt, Skipped as IsSkipped}
 use Rattle.slot_values.specs.Log.{Group, Reading, incs, is_kept, has_effect, config, majority, became, after}
-use Rattle.node_rules.specs.declared.taken.Taken.{Taken}
-use Rattle.node_rules.specs.Chosen.{Cast, IsChosen, IsChosenLog, has_cast, cast_of}
+use Rattle.node_rules.specs.Chosen.{Cast, IsChosenLog, has_cast, cast_of}
 use Rattle.order_laws.specs.Laws.{AddedIn}
 use Rattle.group_rules.specs.declared.marks.Effect.{Effect}
-use Rattle.group_rules.specs.declared.marks.Effect.TheVariants.{Plain, Void, Unread, Positive, Conflict}
+use Rattle.group_rules.specs.declared.marks.Effect.TheVariants.{Plain}
 use Rattle.group_rules.specs.View.{void_if}
-use Rattle.group_rules.specs.Events.{Did, Took, Skips, Life, Setup, Entry}
+use Rattle.group_rules.specs.Events.{Took, Skips, Life, Setup, Entry}
 use Rattle.group_rules.specs.Parts.{open_parts, held}
 use Rattle.group_rules.specs.Steps.{group_of}
 use Rattle.group_rules.specs.Taking.{effect_of, entry_of}
 use Rattle.group_rules.specs.World.{Past, life_in}
 use Rattle.group_rules.specs.OneList.{reading_of, value_at, before_slot}
-use Rattle.group_bridge.specs.Left.{slot_left, taken_left}
+use Rattle.group_bridge.specs.Left.{slot_left}
 use Rattle.group_order.specs.OneLog.{OnLog, LeftBy}
-use Rattle.group_order.proofs.Flips.{flip, flip_length, read_flip, take_flip, get_flip, get_take, take_less, before_length, before_next}
+use Rattle.group_order.proofs.Flips.{flip, flip_length, read_flip, take_flip, get_take, take_less, before_length, before_next}
 
 -- ---- a part of a log of chosen values is one
 
@@ -39,9 +35,9 @@ get_none (x ∷ xs) (suc n) (suc k) h = get_none xs n k (omega (arith, h))
 pub take_chosen : (g : Group) (cs : List Cast) (xs : List Value) (n : ℕ) → IsChosenLog g cs xs → IsChosenLog g cs (take n xs)
 take_chosen g cs xs n h k u q = elim (cases_Bool (ltb k n)) [
   | inl a ↦ (let lt : k < n = leb-true (suc k) n a in
-    let x = h k u (sym (get_take xs n k lt) ∙ q) in
-    let same : config g xs (k + 1) ≡ config g (take n xs) (k + 1) = ap (λ l. incs (after g l).members) (sym (take_less xs ((k + 1) - g.horizon) n (omega (arith, lt)))) in
-    (x.0, subst (λ c. IsTrue (majority c (λ i. has_cast cs (cast_of i (k + 1) x.0 u)))) same x.1))
+      let x = h k u (sym (get_take xs n k lt) ∙ q) in
+      let same : config g xs (k + 1) ≡ config g (take n xs) (k + 1) = ap (λ l. incs (after g l).members) (sym (take_less xs ((k + 1) - g.horizon) n (omega (arith, lt)))) in
+      (x.0, subst (λ c. IsTrue (majority c (λ i. has_cast cs (cast_of i (k + 1) x.0 u)))) same x.1))
   | inr a ↦ (let ge = leb-false (suc k) n a in let none : None ≡ Some u = sym (get_none xs n k (omega (arith, ge))) ∙ q in absurd (cc))
 ]
 
@@ -100,10 +96,17 @@ took_as t log p i e h = go (h.0).kept refl
 
 module _ (t : Setup) (cs : List Cast) (log : List Value) (chosen : IsChosenLog (group_of t) cs (flip log)) where
   pub added_here : (l : Life) (e : Entry) (j : Joiner) → TookAs t log l e → e.value.what ≡ Add j → e.effect ≡ Plain → AddedIn (group_of t) cs j.inc e.slot
-  added_here l e j x w f =
-      (flip (before_slot log e.slot), e.value, j, subst (λ y. IsChosenLog (group_of t) cs y) with_it (take_chosen (group_of t) cs (flip log) e.slot chosen), slot, w, refl,
-      subst (λ r. is_kept r e.value ≡ true) (sym (read_flip t (before_slot log e.slot))) k.0,
-      subst (λ r. has_effect r e.value.what ≡ true) (sym (read_flip t (before_slot log e.slot))) (k.1 ∙ effect))
+  added_here l e j x w f = (
+    flip (before_slot log e.slot),
+    e.value,
+    j,
+    subst (λ y. IsChosenLog (group_of t) cs y) with_it (take_chosen (group_of t) cs (flip log) e.slot chosen),
+    slot,
+    w,
+    refl,
+    subst (λ r. is_kept r e.value ≡ true) (sym (read_flip t (before_slot log e.slot))) k.0,
+    subst (λ r. has_effect r e.value.what ≡ true) (sym (read_flip t (before_slot log e.slot))) (k.1 ∙ effect),
+  )
     where
       k : (is_kept (reading_of t (before_slot log e.slot)) e.value ≡ true) × (has_effect (reading_of t (before_slot log e.slot)) e.value.what ≡ x.effect)
       k = kept_is (reading_of t (before_slot log e.slot)) e.value x.place x.effect x.kept

@@ -1,9 +1,8 @@
 -- The list that a log gives: its places, its members, and the parts that are open.
-use Rattle.std.proofs.Common.{eqb, eq-eqb, append_assoc, append-nil, ◌≡◌, ◌⊎◌, inl, inr, ℕ, zero, suc, ◌+◌, ◌-◌, ◌≤◌, ◌<◌, Bool, true, false, cond, not, ◌&&◌, ◌||◌, Option, Some, None, List, [], ◌∷◌, ◌++◌, refl, sym, ap, subst, ◌∙◌, length, map, arith}
-use Rattle.std.specs.Prelude.{filter, ◌==◌, if◌then◌else◌}
-use Rattle.std.specs.List.{list_any}
+use Rattle.std.proofs.Common.{◌≡◌, inl, inr, ℕ, suc, ◌+◌, Bool, true, false, cond, not, ◌&&◌, Option, Some, None, List, [], ◌∷◌, refl, sym, ap, ◌∙◌, length, map}
+use Rattle.std.specs.Prelude.{filter, if◌then◌else◌}
 use Rattle.std.proofs.lemmas.Bool.{false≢true, cases_Bool, cond_both, and_parts, not-true}
-use Rattle.gr_ids.specs.Names.{inc_eq, inc_lt, has_inc, is_inc}
+use Rattle.gr_ids.specs.Names.{inc_eq, inc_lt, has_inc}
 use Rattle.gr_ids.specs.declared.names.Inc.{Inc}
 use Rattle.gr_ids.specs.declared.names.OpenParts.{OpenParts}
 use Rattle.gr_ids.specs.declared.levels.MemberState.TheVariants.{Online, Recovering}
@@ -15,20 +14,18 @@ use Rattle.slot_values.specs.declared.value.What.{What}
 use Rattle.slot_values.specs.declared.value.What.TheVariants.{Noop, Add, Remove, Body as Says}
 use Rattle.slot_values.specs.Values.{is_noop}
 use Rattle.slot_values.specs.declared.member.Member.{Member}
-use Rattle.slot_values.specs.declared.kept.Kept.{Kept}
 use Rattle.slot_values.specs.declared.kept.Kept.TheVariants.{At as KeptAt, Skipped as IsSkipped}
-use Rattle.slot_values.specs.Log.{Group, Reading, with_inc, incs, founded, is_next, is_kept, has_effect, counted, with_member, without, kept, changed, read, became}
+use Rattle.slot_values.specs.Log.{Reading, with_inc, incs, is_kept, has_effect, counted, with_member, without, kept, changed, read}
 use Rattle.txn_forms.specs.declared.body.Body.{Body}
 use Rattle.txn_forms.specs.declared.body.Body.TheVariants.{Txn as Writes, Prepared, Sync, Executed, Online as Arrives, Mode as Switches, Primary as Appoints, Part as PartOf}
 use Rattle.txn_forms.specs.declared.body.ModeChange.TheVariants.{Multi as ToMulti, Single as ToSingle}
 use Rattle.group_rules.specs.declared.marks.Effect.{Effect}
 use Rattle.group_rules.specs.declared.marks.Effect.TheVariants.{Plain, Void, Unread, Positive, Conflict}
-use Rattle.group_rules.specs.Events.{Founds, Took, Life, Setup, Entry}
+use Rattle.group_rules.specs.Events.{Life, Setup}
 use Rattle.group_rules.specs.Life.{view, taken}
-use Rattle.group_rules.specs.View.{View, founding, seated, is_single, has_primary, settled, with_primary, elect, joiners, online_seats, with_seat, comes_online, with_named, is_online, changed_view, next_view, void_if}
+use Rattle.group_rules.specs.View.{View, seated, is_single, has_primary, settled, with_primary, elect, joiners, online_seats, with_seat, comes_online, with_named, is_online, changed_view, next_view, void_if}
 use Rattle.group_rules.specs.Parts.{open_parts, held}
-use Rattle.group_rules.specs.Steps.{group_of}
-use Rattle.group_rules.specs.OneList.{reading_of, scan_effect, scan_entry, listed_by, listed}
+use Rattle.group_rules.specs.OneList.{reading_of, scan_effect, listed_by, listed}
 use Rattle.group_order.proofs.Adds.{with_more}
 
 -- ---- places

@@ -1,18 +1,18 @@
 -- No ask is pending once a Give was taken up; slots rise; and where the list has an entry.
-use Rattle.std.proofs.Common.{eqb, eq-eqb, ltb, leb, ◌≡◌, ◌⊎◌, inl, inr, ℕ, zero, suc, ◌+◌, ◌≤◌, ◌<◌, Bool, true, false, Option, Some, None, List, [], ◌∷◌, ◌++◌, refl, sym, ap, subst, ◌∙◌, length, arith}
+use Rattle.std.proofs.Common.{eqb, eq-eqb, ◌≡◌, ◌⊎◌, inl, inr, ℕ, zero, suc, ◌+◌, ◌≤◌, ◌<◌, Bool, true, false, Some, None, List, [], ◌∷◌, ◌++◌, refl, sym, ap, subst, ◌∙◌, length, arith}
 use Rattle.std.specs.Prelude.{◌==◌, if◌then◌else◌}
-use Rattle.std.proofs.lemmas.Bool.{false≢true, cases_Bool, eqb-true, leb-true, leb-false}
+use Rattle.std.proofs.lemmas.Bool.{false≢true, cases_Bool, eqb-true}
 use Rattle.gr_ids.specs.Names.{inc_eq}
 use Rattle.gr_ids.specs.declared.names.Inc.{Inc}
 use Rattle.slot_values.specs.declared.value.Value.{Value}
 use Rattle.slot_values.specs.declared.kept.Kept.{Kept}
 use Rattle.slot_values.specs.declared.kept.Kept.TheVariants.{At as KeptAt, Skipped as IsSkipped}
-use Rattle.slot_values.specs.Log.{Reading, is_kept, has_effect, kept, changed, read, became}
+use Rattle.slot_values.specs.Log.{Reading, is_kept, has_effect, became}
 use Rattle.node_rules.specs.Lists.{In}
 use Rattle.node_rules.specs.World.{Took as NodeTook}
 use Rattle.order_laws.specs.Laws.{slots_by}
 use Rattle.group_rules.specs.declared.marks.Reply.TheVariants.{Sent as SentAs, Ballot as AtBallot, Asked, Failed, Finished, NotOnline as IsNotOnline, NoAskDue, NoAskPending, NotQueued, AlreadyDone}
-use Rattle.group_rules.specs.Events.{Did, Founds, Starts, Came, Made, Took, Skips, Done, Committed, Is, Gave, Answered, Begun, Changed, Replied, Called, AsksCommit, Ends, Enters, Restores, AskFails, Life, Setup, Entry}
+use Rattle.group_rules.specs.Events.{Did, Founds, Starts, Came, Made, Took, Skips, Done, Committed, Is, Gave, Answered, Begun, Changed, Replied, Called, AsksCommit, Ends, Enters, Restores, AskFails, Life, Setup}
 use Rattle.group_rules.specs.Life.{taken, has_give, entry_at}
 use Rattle.group_rules.specs.Legal.{last_slot}
 use Rattle.group_rules.specs.Recovery.{pending_ask}
@@ -21,11 +21,10 @@ use Rattle.group_rules.specs.OneList.{reading_of, value_at, before_slot, scan_en
 use Rattle.group_bridge.specs.Moves.{slots_in}
 use Rattle.group_runs.specs.Runs.{AllDid, IsDone, OfSlots}
 use Rattle.group_order.proofs.Incs.{inc_same, inc_is}
-use Rattle.group_order.proofs.Flips.{value_below, value_here, value_past, before_above, before_all, before_next}
+use Rattle.group_order.proofs.Flips.{value_below, value_here, before_above, before_all, before_next}
 use Rattle.group_order.proofs.Shapes.{Shape, shapes}
 use Rattle.group_order.proofs.Spans.{enters_waits}
 use Rattle.group_order.proofs.Nexts.{IsNext}
-use Rattle.group_order.proofs.Joins.{kept_is}
 use Rattle.group_order.proofs.Listed.{listed_place}
 use Rattle.group_order.proofs.Begins.{places_rise}
 

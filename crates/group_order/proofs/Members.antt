@@ -1,28 +1,22 @@
 -- The members that a log gives: they are distinct, each was added once, and those who never were members have no open parts.
-use Rattle.std.proofs.Common.{eqb, eq-eqb, ◌≡◌, ◌⊎◌, inl, inr, ℕ, zero, suc, ◌+◌, ◌≤◌, ◌<◌, Bool, true, false, cond, not, ◌&&◌, ◌||◌, Option, Some, None, List, [], ◌∷◌, refl, sym, ap, subst, ◌∙◌, length, map, arith}
-use Rattle.std.specs.Prelude.{filter, ◌==◌, if◌then◌else◌}
-use Rattle.std.specs.List.{list_any}
-use Rattle.std.proofs.lemmas.Bool.{false≢true, cases_Bool, cond_both, and_parts, eqb-true, not-true}
+use Rattle.std.proofs.Common.{◌≡◌, ◌⊎◌, inl, inr, ℕ, suc, ◌+◌, Bool, true, false, cond, not, ◌&&◌, ◌||◌, None, List, [], ◌∷◌, refl, sym, ap, subst, ◌∙◌, length, map}
+use Rattle.std.specs.Prelude.{◌==◌, if◌then◌else◌}
+use Rattle.std.proofs.lemmas.Bool.{false≢true, cases_Bool, cond_both, and_parts, not-true}
 use Rattle.gr_ids.specs.Names.{inc_eq, inc_lt, has_inc}
 use Rattle.gr_ids.specs.declared.names.Inc.{Inc}
-use Rattle.gr_ids.specs.declared.names.OpenParts.{OpenParts}
-use Rattle.slot_values.specs.declared.value.Joiner.{Joiner}
 use Rattle.slot_values.specs.declared.value.Value.{Value}
 use Rattle.slot_values.specs.declared.value.What.{What}
 use Rattle.slot_values.specs.declared.value.What.TheVariants.{Noop, Add, Remove, Body as Says}
 use Rattle.slot_values.specs.Values.{is_noop}
 use Rattle.slot_values.specs.declared.member.Member.{Member}
-use Rattle.slot_values.specs.declared.kept.Kept.{Kept}
 use Rattle.slot_values.specs.declared.kept.Kept.TheVariants.{At as KeptAt, Skipped as IsSkipped}
-use Rattle.slot_values.specs.Log.{Group, Reading, with_inc, incs, founded, is_next, is_kept, has_effect, has_server, counted, with_member, without, kept, changed, read, became}
-use Rattle.node_rules.specs.Lists.{In}
-use Rattle.group_rules.specs.Events.{Founds, Took, Life, Setup, Entry}
+use Rattle.slot_values.specs.Log.{Reading, with_inc, incs, is_next, is_kept, has_effect, with_member, without, kept, changed, read}
+use Rattle.group_rules.specs.Events.{Setup}
 use Rattle.group_rules.specs.Parts.{open_parts}
 use Rattle.group_rules.specs.Steps.{group_of}
-use Rattle.group_rules.specs.OneList.{reading_of, scan_entry, listed_by, listed}
-use Rattle.group_runs.specs.Runs.{Apart, IsSetup}
+use Rattle.group_rules.specs.OneList.{reading_of, listed_by, listed}
 use Rattle.group_order.specs.OneLog.{is_member_of}
-use Rattle.group_order.proofs.Incs.{inc_same, inc_is}
+use Rattle.group_order.proofs.Incs.{inc_is}
 use Rattle.group_order.proofs.Adds.{with_more, with_here, or_parts, or_first, or_second}
 use Rattle.group_order.proofs.Listed.{counted_incs, with_inc_more}
 

@@ -1,27 +1,24 @@
 -- Each slot is the next after the last one of the incarnation that takes it; and where a Welcome came from.
-use Rattle.std.proofs.Common.{eqb, append_assoc, append-nil, ◌≡◌, ◌⊎◌, inl, inr, ℕ, zero, suc, ◌+◌, ◌-◌, ◌≤◌, ◌<◌, Bool, true, false, Option, Some, None, List, [], ◌∷◌, ◌++◌, refl, sym, ap, subst, ◌∙◌, length, length-append, arith}
-use Rattle.std.proofs.lemmas.Bool.{false≢true, cases_Bool}
-use Rattle.gr_ids.specs.Names.{inc_eq, has_inc}
+use Rattle.std.proofs.Common.{append_assoc, ◌≡◌, inl, inr, ℕ, zero, suc, ◌+◌, ◌<◌, Bool, true, false, Some, None, List, [], ◌∷◌, ◌++◌, refl, sym, ap, subst, ◌∙◌, length, arith}
+use Rattle.std.proofs.lemmas.Bool.{false≢true}
+use Rattle.gr_ids.specs.Names.{inc_eq}
 use Rattle.gr_ids.specs.declared.names.Inc.{Inc}
-use Rattle.slot_values.specs.Log.{Group}
 use Rattle.paxos_forms.specs.declared.message.Message.{Message}
-use Rattle.paxos_forms.specs.declared.message.Wire.{Wire}
 use Rattle.paxos_forms.specs.declared.message.Wire.TheVariants.{Welcome as Greet}
 use Rattle.paxos_forms.specs.declared.welcome.Welcome.{Welcome}
 use Rattle.node_rules.specs.Lists.{In}
 use Rattle.node_rules.specs.World as nodes
-use Rattle.order_laws.specs.Laws.{AddedIn, count_up}
-use Rattle.group_rules.specs.Events.{Did, Founds, Starts, Came, Made, Took, Skips, Done, Committed, Is, Gave, Answered, Begun, Changed, Replied, Called, AsksCommit, Ends, Enters, Restores, AskFails, Event, Hears, Life, Setup}
-use Rattle.group_rules.specs.Life.{entered, has_give}
+use Rattle.order_laws.specs.Laws.{count_up}
+use Rattle.group_rules.specs.Events.{Did, Founds, Starts, Came, Made, Took, Skips, Done, Committed, Is, Gave, Answered, Begun, Changed, Replied, Called, AsksCommit, Ends, Enters, Restores, AskFails, Hears, Life, Setup}
+use Rattle.group_rules.specs.Life.{entered}
 use Rattle.group_rules.specs.Legal.{IsPast, last_slot}
-use Rattle.group_rules.specs.Steps.{group_of}
 use Rattle.group_rules.specs.Taking.{takes_slots}
-use Rattle.group_rules.specs.World.{World, Past, Happening, Does, Writes, Halts, life_in}
+use Rattle.group_rules.specs.World.{Past, Does, Writes, Halts, life_in}
 use Rattle.group_bridge.specs.Moves.{is_apart, slots_in}
-use Rattle.group_runs.specs.Runs.{is_founder, AllDid, IsDone, HeardIn, WasGreeted, WasSentAs, OfSlots}
+use Rattle.group_runs.specs.Runs.{AllDid, IsDone, HeardIn, WasGreeted, WasSentAs, OfSlots}
 use Rattle.group_order.proofs.Incs.{inc_same, inc_is}
-use Rattle.group_order.proofs.Shapes.{Shape, takes_after, shapes}
-use Rattle.group_order.proofs.Spans.{Last, lasts, Span, count_next, count_end}
+use Rattle.group_order.proofs.Shapes.{Shape, shapes}
+use Rattle.group_order.proofs.Spans.{Last, lasts, count_next, count_end}
 
 some_none : {A : Type 0} (x : A) → Some x ≡ None → ⊥
 some_none x e = absurd (cc e)
@@ -145,14 +142,14 @@ module _ (t : Setup) (v : nodes.World) (full : Inc → List ℕ) (first count : 
   next_slot : (p : Past) (i : Inc) (s : ℕ) (zs : List ℕ) → Last (life_in p i) → Shape t i (life_in p i) → WelcomeAt B (life_in p i) i → takes_slots (life_in p i) ≡ true → (slots_in (life_in p i) ++ s ∷ []) ++ zs ≡ full i → s ≡ suc (last_slot (life_in p i))
   next_slot p i s zs l o a r e = elim l.some [
     | inl q ↦ (let z : slots_in (life_in p i) ≡ [] = q in
-      let len : length (slots_in (life_in p i)) ≡ 0 = ap length q in
-      let at : last_slot (life_in p i) ≡ first i = at_first i (life_in p i) l o a r q some in
-      omega (arith, k.0, len, at))
+        let len : length (slots_in (life_in p i)) ≡ 0 = ap length q in
+        let at : last_slot (life_in p i) ≡ first i = at_first i (life_in p i) l o a r q some in
+        omega (arith, k.0, len, at))
     | inr q ↦ (let same : slots_in (life_in p i) ≡ q.0 ++ last_slot (life_in p i) ∷ [] = q.1 in
-      let up : q.0 ++ last_slot (life_in p i) ∷ [] ≡ count_up (first i + 1) (length (q.0 ++ last_slot (life_in p i) ∷ [])) = subst (λ l. l ≡ count_up (first i + 1) (length l)) q.1 k.1 in
-      let end = count_end q.0 (last_slot (life_in p i)) (first i + 1) up in
-      let len : length (slots_in (life_in p i)) ≡ length (q.0 ++ last_slot (life_in p i) ∷ []) = ap length q.1 in
-      omega (arith, k.0, end, len))
+        let up : q.0 ++ last_slot (life_in p i) ∷ [] ≡ count_up (first i + 1) (length (q.0 ++ last_slot (life_in p i) ∷ [])) = subst (λ l. l ≡ count_up (first i + 1) (length l)) q.1 k.1 in
+        let end = count_end q.0 (last_slot (life_in p i)) (first i + 1) up in
+        let len : length (slots_in (life_in p i)) ≡ length (q.0 ++ last_slot (life_in p i) ∷ []) = ap length q.1 in
+        omega (arith, k.0, end, len))
   ]
     where
       k : (s ≡ (first i + 1) + length (slots_in (life_in p i))) × (slots_in (life_in p i) ≡ count_up (first i + 1) (length (slots_in (life_in p i))))

@@ -1,23 +1,20 @@
 -- Every run: one log, and each incarnation follows it.
-use Rattle.std.proofs.Common.{eqb, leb, map, ◌≡◌, ◌⊎◌, inl, inr, ℕ, suc, ◌+◌, ◌≤◌, ◌<◌, Bool, true, false, Option, Some, None, List, [], ◌∷◌, ◌++◌, append-nil, refl, sym, ap, subst, ◌∙◌, length, take, arith}
+use Rattle.std.proofs.Common.{eqb, leb, map, ◌≡◌, ◌⊎◌, inl, inr, ℕ, suc, ◌+◌, ◌≤◌, ◌<◌, Bool, true, false, Option, Some, None, List, [], ◌∷◌, append-nil, refl, sym, ap, subst, ◌∙◌, length, take, arith}
 use Rattle.std.specs.Prelude.{◌==◌, ◌&&◌, ◌||◌, not}
 use Rattle.std.specs.List.{list_any}
-use Rattle.std.proofs.lemmas.Bool.{false≢true, cases_Bool, and_parts, eqb-true, leb-true, leb-false, not-true}
+use Rattle.std.proofs.lemmas.Bool.{false≢true, cases_Bool, and_parts, eqb-true, leb-true, leb-false}
 use Rattle.gr_ids.specs.Names.{inc_eq, is_inc}
 use Rattle.gr_ids.specs.declared.names.Inc.{Inc}
-use Rattle.slot_values.specs.declared.value.Joiner.{Joiner}
 use Rattle.slot_values.specs.declared.value.Value.{Value}
-use Rattle.slot_values.specs.declared.value.What.TheVariants.{Noop, Add}
+use Rattle.slot_values.specs.declared.value.What.TheVariants.{Noop}
 use Rattle.slot_values.specs.Values.{is_noop}
 use Rattle.slot_values.specs.declared.member.Member.{Member}
 use Rattle.slot_values.specs.declared.kept.Kept.{Kept}
 use Rattle.slot_values.specs.declared.kept.Kept.TheVariants.{At as KeptAt, Skipped as IsSkipped}
-use Rattle.slot_values.specs.Log.{Group, Reading, is_next, is_kept, became, after}
-use Rattle.paxos_forms.specs.declared.message.Message.{Message}
+use Rattle.slot_values.specs.Log.{Reading, is_next, is_kept, became, after}
 use Rattle.paxos_forms.specs.declared.welcome.Welcome.{Welcome}
 use Rattle.paxos_forms.specs.declared.welcome.WelcomeMember.{WelcomeMember}
 use Rattle.paxos_forms.specs.declared.recovery.Give.{Give}
-use Rattle.node_rules.specs.declared.taken.Taken.{Taken}
 use Rattle.node_rules.specs.Lists.{In}
 use Rattle.node_rules.specs.Chosen.{IsChosenLog}
 use Rattle.node_rules.specs.World as nodes
@@ -31,10 +28,10 @@ use Rattle.group_rules.specs.Steps.{group_of}
 use Rattle.group_rules.specs.Taking.{takes_slots, entry_of}
 use Rattle.group_rules.specs.World.{World, Past, Happening, Does, Writes, Halts, life_in, world_after}
 use Rattle.group_rules.specs.OneList.{reading_of, value_at, before_slot, scan_entry, listed}
-use Rattle.group_bridge.specs.Left.{IsRestored, IsSent, IsGiveSent, slot_left, taken_left}
+use Rattle.group_bridge.specs.Left.{IsRestored, IsSent, IsGiveSent, slot_left}
 use Rattle.group_bridge.specs.Moves.{slots_in}
-use Rattle.group_runs.specs.Runs.{as_sent, IsSetup, is_founder, AllDid, IsDone, HeardIn, WasGreeted, WasTold, WasSentAs, IsNodeRun, TookIn, TookThen, OfSlots, OfNodes, EveryRun}
-use Rattle.group_order.specs.OneLog.{OnLog, LeftBy, SkippedAs, IsReady, AgreesWith, Viewed, AgreesAt, TakenAs, Follows, NoOther, OneLogOf, EveryRunHasOne}
+use Rattle.group_runs.specs.Runs.{as_sent, IsSetup, is_founder, AllDid, IsDone, HeardIn, WasGreeted, WasTold, WasSentAs, TookThen, OfSlots, OfNodes, EveryRun}
+use Rattle.group_order.specs.OneLog.{LeftBy, SkippedAs, IsReady, AgreesWith, Viewed, AgreesAt, Follows, NoOther, OneLogOf, EveryRunHasOne}
 use Rattle.group_order.proofs.Steps.{SlotTaken, Steps}
 use Rattle.group_order.proofs.Flips.{flip, flip_length, read_flip, take_flip, before_length}
 use Rattle.group_order.proofs.Logs.{LogOf, the_log, shorter, left_all}

@@ -1,6 +1,6 @@
 -- The members of a log are distinct, so what a Welcome tells of each seat is that seat.
-use Rattle.std.proofs.Common.{eqb, eq-eqb, ◌≡◌, ◌⊎◌, inl, inr, ℕ, suc, ◌<◌, Bool, true, false, cond, not, ◌&&◌, ◌||◌, Option, Some, None, List, [], ◌∷◌, refl, sym, ap, subst, ◌∙◌, map}
-use Rattle.std.specs.Prelude.{filter, if◌then◌else◌}
+use Rattle.std.proofs.Common.{◌≡◌, inl, inr, Bool, true, false, not, List, [], ◌∷◌, refl, sym, ap, subst, ◌∙◌, map}
+use Rattle.std.specs.Prelude.{if◌then◌else◌}
 use Rattle.std.proofs.lemmas.Bool.{false≢true, cases_Bool, and_parts, not-true}
 use Rattle.gr_ids.specs.Names.{inc_eq, inc_lt, has_inc}
 use Rattle.gr_ids.specs.declared.names.Inc.{Inc}
@@ -11,11 +11,9 @@ use Rattle.slot_values.specs.declared.value.Value.{Value}
 use Rattle.slot_values.specs.declared.value.What.{What}
 use Rattle.slot_values.specs.declared.value.What.TheVariants.{Noop, Add, Remove, Body as Says}
 use Rattle.slot_values.specs.declared.member.Member.{Member}
-use Rattle.slot_values.specs.Log.{Group, Reading, incs, is_kept, has_effect, with_member, without, kept, changed, read}
-use Rattle.paxos_forms.specs.declared.welcome.WelcomeMember.{WelcomeMember}
+use Rattle.slot_values.specs.Log.{incs, has_effect, with_member, without, kept, changed, read}
 use Rattle.group_rules.specs.Events.{Setup}
-use Rattle.group_rules.specs.View.{View, seated, seat_in, no_seat, shown}
-use Rattle.group_rules.specs.Steps.{group_of}
+use Rattle.group_rules.specs.View.{seated, seat_in}
 use Rattle.group_rules.specs.OneList.{reading_of}
 use Rattle.group_runs.specs.Runs.{Apart, IsSetup}
 use Rattle.group_order.specs.OneLog.{is_member_of}

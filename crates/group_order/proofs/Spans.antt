@@ -1,29 +1,22 @@
 -- Each incarnation takes consecutive slots: each one is the next after its last.
-use Rattle.std.proofs.Common.{eqb, append_assoc, append-nil, ◌≡◌, ◌⊎◌, inl, inr, ℕ, zero, suc, ◌+◌, ◌-◌, ◌≤◌, ◌<◌, Bool, true, false, Option, Some, None, List, [], ◌∷◌, ◌++◌, refl, sym, ap, subst, ◌∙◌, length, length-append, arith}
-use Rattle.std.specs.Prelude.{slice_get}
+use Rattle.std.proofs.Common.{append-nil, ◌≡◌, ◌⊎◌, inl, inr, ℕ, zero, suc, ◌+◌, ◌-◌, ◌≤◌, ◌<◌, Bool, true, false, Option, Some, None, List, [], ◌∷◌, ◌++◌, refl, sym, ap, subst, ◌∙◌, length, length-append, arith}
 use Rattle.std.proofs.lemmas.Bool.{false≢true, cases_Bool}
 use Rattle.gr_ids.specs.Names.{inc_eq, has_inc}
 use Rattle.gr_ids.specs.declared.names.Inc.{Inc}
-use Rattle.slot_values.specs.declared.value.Value.{Value}
-use Rattle.slot_values.specs.Log.{Group, Turns}
-use Rattle.paxos_forms.specs.declared.message.Message.{Message}
-use Rattle.paxos_forms.specs.declared.message.Wire.{Wire}
-use Rattle.paxos_forms.specs.declared.message.Wire.TheVariants.{Welcome as Greet}
+use Rattle.slot_values.specs.Log.{Turns}
 use Rattle.paxos_forms.specs.declared.welcome.Welcome.{Welcome}
-use Rattle.node_rules.specs.Lists.{In}
 use Rattle.node_rules.specs.Node.{Node}
 use Rattle.node_rules.specs.World as nodes
-use Rattle.order_laws.specs.Laws.{InEveryRun, AddedIn, Consecutive, WelcomesFollow, slots_by, count_up}
-use Rattle.group_rules.specs.Events.{Did, Founds, Starts, Came, Made, Took, Skips, Done, Committed, Is, Gave, Answered, Begun, Changed, Replied, Called, AsksCommit, Ends, Enters, Restores, AskFails, Event, Hears, Ticks, Works, Calls, Operates, Life, Setup}
-use Rattle.group_rules.specs.Life.{state, is_offline, entered, has_give}
+use Rattle.order_laws.specs.Laws.{InEveryRun, AddedIn, Consecutive, slots_by, count_up}
+use Rattle.group_rules.specs.Events.{Did, Founds, Starts, Came, Made, Took, Skips, Done, Committed, Is, Gave, Answered, Begun, Changed, Replied, Called, AsksCommit, Ends, Enters, Restores, AskFails, Life, Setup}
+use Rattle.group_rules.specs.Life.{state, is_offline, entered}
 use Rattle.group_rules.specs.Legal.{last_slot}
 use Rattle.group_rules.specs.Steps.{group_of}
-use Rattle.group_rules.specs.Taking.{takes_slots}
 use Rattle.group_rules.specs.World.{World, Past, Does, Writes, Halts, life_in}
-use Rattle.group_bridge.specs.Moves.{is_apart, slots_in}
-use Rattle.group_runs.specs.Runs.{as_sent, IsSetup, is_founder, AllDid, IsDone, HeardIn, IsNodeRun, OfSlots, OfNodes}
-use Rattle.group_order.proofs.Incs.{inc_same, inc_is}
-use Rattle.group_order.proofs.Shapes.{Shape, Waits, EntersLast, FounderLife, JoinerLife, not_entering, takes_after, shapes}
+use Rattle.group_bridge.specs.Moves.{slots_in}
+use Rattle.group_runs.specs.Runs.{as_sent, IsSetup, is_founder, AllDid, IsDone, OfNodes}
+use Rattle.group_order.proofs.Incs.{inc_is}
+use Rattle.group_order.proofs.Shapes.{Shape, Waits, not_entering, shapes}
 
 some_none : {A : Type 0} (x : A) → Some x ≡ None → ⊥
 some_none x e = absurd (cc e)

@@ -15,7 +15,7 @@ use Rattle.group_rules.specs.Taking.{entry_of}
 use Rattle.group_rules.specs.World.{Past, Move, world_after, life_in}
 use Rattle.group_rules.specs.OneList.{listed, reading_of, value_at, before_slot}
 use Rattle.group_bridge.specs.Left.{taken_left}
-use Rattle.group_runs.specs.Runs.{IsSetup, is_founder, AllDid, OfSlots}
+use Rattle.group_runs.specs.Runs.{IsSetup, is_founder, AllDid}
 
 -- what was taken stands in the log (the last slot first), and became what it becomes after the log before it
 pub record OnLog (t : Setup) (log : List Value) (y : Taken) : Type 0 where

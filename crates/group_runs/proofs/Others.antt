@@ -274,10 +274,10 @@ started_keeps t w v inv n s at_it idle via = (
       | inr q ↦ elim (inv.lives i) [ inl k ↦ inl (life_of_others j.inc i a.life w.past q ∙ k) | inr k ↦ inr (grows i k) ]
     ];
     there = λ i. elim (cases_Bool (inc_eq j.inc i)) [
-    | inl q ↦ inr (joiner (group_of t) j.inc, subst (λ z. after.at z ≡ Some (joiner (group_of t) j.inc)) (inc_is j.inc i q) (put_here v.at j.inc (joiner (group_of t) j.inc)))
-    | inr q ↦ elim (inv.there i) [ inl k ↦ inl (life_of_others j.inc i a.life w.past q ∙ k) | inr k ↦ inr (k.0, put_there v.at j.inc i (joiner (group_of t) j.inc) q ∙ k.1) ]
-  ];
-  sent = λ m h. elim (in_either m w.sent a.sent h) [
+      | inl q ↦ inr (joiner (group_of t) j.inc, subst (λ z. after.at z ≡ Some (joiner (group_of t) j.inc)) (inc_is j.inc i q) (put_here v.at j.inc (joiner (group_of t) j.inc)))
+      | inr q ↦ elim (inv.there i) [ inl k ↦ inl (life_of_others j.inc i a.life w.past q ∙ k) | inr k ↦ inr (k.0, put_there v.at j.inc i (joiner (group_of t) j.inc) q ∙ k.1) ]
+    ];
+    sent = λ m h. elim (in_either m w.sent a.sent h) [
       | inl z ↦ elim (inv.sent m z) [ inl k ↦ inl (in_left m v.wire (nodes.start_sent j via.me.inc ∷ []) k) | inr k ↦ inr k ]
       | inr z ↦ elim z [ inl q ↦ inr (subst (λ x. is_apart x.wire ≡ true) q refl) | inr q ↦ absurd q ]
     ];
