@@ -203,9 +203,14 @@ kept_as_in_log arrange ok g es far x h =
     let w = run arrange g es in
     let inv = good arrange ok g es in
     let sound = sound_of g w.at w.wire w.cast w.took inv in
-    let k = inv.took x h in
-    (k.log, log_chosen g (first_ballot g) w.cast far sound k.log k.log_decided, k.slot, decided_chosen g (first_ballot g) w.cast far sound k.log k.log_decided x.taken.slot x.taken.value (omega (arith, k.slot, far)) k.decided, k.kept,
-        log_chosen g (first_ballot g) w.cast far sound (k.log ++ x.taken.value ∷ []) (log_more g w.cast k.log x.taken.value k.log_decided (subst (λ z. Decided g w.cast z x.taken.value) k.slot k.decided)))
+    let k = inv.took x h in (
+      k.log,
+      log_chosen g (first_ballot g) w.cast far sound k.log k.log_decided,
+      k.slot,
+      decided_chosen g (first_ballot g) w.cast far sound k.log k.log_decided x.taken.slot x.taken.value (omega (arith, k.slot, far)) k.decided,
+      k.kept,
+      log_chosen g (first_ballot g) w.cast far sound (k.log ++ x.taken.value ∷ []) (log_more g w.cast k.log x.taken.value k.log_decided (subst (λ z. Decided g w.cast z x.taken.value) k.slot k.decided)),
+    )
 
 pub follows : InEveryRun Follows
 follows arrange ok g es far i n t here turns =
