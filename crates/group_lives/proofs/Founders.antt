@@ -25,15 +25,15 @@ use Rattle.group_laws.specs.Life as lives
 use Rattle.group_lives.specs.Lives.{does_entry, outcome_of, law_cert, made_did, did_of, life_of}
 use Rattle.group_lives.specs.Sound.{IsEffect, IsFounders}
 
-skip_answer : (base : List law.Placed) (s : ℕ) (a : Answer) (l : Life) (m : lives.Life) → lives.marked (did_of base (Answered s a) l ++ m) ≡ lives.marked m
+pub skip_answer : (base : List law.Placed) (s : ℕ) (a : Answer) (l : Life) (m : lives.Life) → lives.marked (did_of base (Answered s a) l ++ m) ≡ lives.marked m
 skip_answer base s (CommittedAs h) l m = refl
 skip_answer base s a l m = refl
 
-skip_state : (base : List law.Placed) (x : MemberState) (c : Cause) (l : Life) (m : lives.Life) → lives.marked (did_of base (Is x c) l ++ m) ≡ lives.marked m
+pub skip_state : (base : List law.Placed) (x : MemberState) (c : Cause) (l : Life) (m : lives.Life) → lives.marked (did_of base (Is x c) l ++ m) ≡ lives.marked m
 skip_state base Error c l m = refl
 skip_state base x c l m = refl
 
-skip_made : (v : Value) (b : Option Body) (l : Life) (m : lives.Life) → lives.marked (made_did v b l ++ m) ≡ lives.marked m
+pub skip_made : (v : Value) (b : Option Body) (l : Life) (m : lives.Life) → lives.marked (made_did v b l ++ m) ≡ lives.marked m
 skip_made v (Some (Writes t)) l m = refl
 skip_made v b l m = refl
 

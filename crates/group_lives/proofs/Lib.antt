@@ -1,3 +1,6 @@
 pub mod Sets
 pub mod Founders
 pub mod Runs
+pub mod Numbers
+pub mod Standings
+pub mod Stable

@@ -1,5 +1,5 @@
 -- What a history must keep so that its life has the same entries: consecutive places, GTIDs of the group, effects by the view.
-use Rattle.std.specs.Prelude.{◌≡◌, suc, Bool, Option, Some, None, [], ◌∷◌}
+use Rattle.std.specs.Prelude.{◌≡◌, suc, Bool, Option, Some, None, List, [], ◌∷◌}
 use Rattle.gtid_sets.specs.Canonical.{IsCanonical, IsUuid, IsNumber}
 use Rattle.slot_values.specs.declared.value.What.{What}
 use Rattle.slot_values.specs.declared.value.What.TheVariants.{Body as Says}
@@ -8,8 +8,12 @@ use Rattle.txn_forms.specs.declared.body.Body.TheVariants.{Txn as Writes, Part a
 use Rattle.group_rules.specs.declared.marks.Effect.{Effect}
 use Rattle.group_rules.specs.declared.marks.Effect.TheVariants.{Positive, Conflict}
 use Rattle.group_rules.specs.Events.{Starts, Took, Committed, Restores, Enters, Founds, Life, Setup}
+use Rattle.gtid_sets.specs.Sets.{Gtids}
 use Rattle.group_rules.specs.Life.{view, taken}
+use Rattle.group_rules.specs.Told.{tells}
 use Rattle.group_rules.specs.View.{View, effect_in, void_if}
+use Rattle.group_laws.specs.Entries as law
+use Rattle.group_laws.specs.View.{Absent, standing}
 
 -- its sets are canonical
 abbrev pub HasSets : Life → Type 0
@@ -41,3 +45,24 @@ IsFounders s (Restores g cs ∷ l) = ⊥
 IsFounders s (Enters w ∷ l) = ⊥
 IsFounders s (Starts x ∷ l) = ⊥
 IsFounders s (_ ∷ l) = IsFounders s l
+
+-- the sets that its members told it are canonical
+abbrev pub IsToldSet : Option Gtids → Type 0
+IsToldSet None = Unit {0}
+IsToldSet (Some x) = IsCanonical x
+
+abbrev pub HasToldSets : Life → Type 0
+HasToldSets [] = Unit {0}
+HasToldSets (Took e ∷ l) = IsToldSet (tells e.holds) × HasToldSets l
+HasToldSets (_ ∷ l) = HasToldSets l
+
+-- ---- a list
+
+-- what is added was never a member
+abbrev pub IsNew : Setup → List law.Value → law.Body → Type 0
+IsNew s p (law.Joins j) = standing s p j.inc ≡ Absent
+IsNew s p b = Unit {0}
+
+abbrev pub AddsNew : Setup → List law.Value → Type 0
+AddsNew s [] = Unit {0}
+AddsNew s (v ∷ p) = IsNew s p v.body × AddsNew s p

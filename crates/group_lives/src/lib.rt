@@ -10,13 +10,19 @@ ghost use Rattle.gr_ids.specs.declared.names.Gtid.{Gtid};
 ghost use Rattle.gtid_sets.specs.Sets.{has};
 ghost use Rattle.group_rules.specs.Events.{Life, Setup};
 ghost use Rattle.group_rules.specs.Life.{executed, taken, view, certs};
+ghost use Rattle.group_rules.specs.View.{is_seated, is_online};
+ghost use Rattle.group_rules.specs.Told.{told, told_of, stable};
+ghost use Rattle.group_rules.specs.Certifier.{certifier, next_gtid};
 ghost use Rattle.group_rules.specs.World.{Past, life_in};
 ghost use Rattle.group_laws.specs.Entries as law;
+ghost use Rattle.group_laws.specs.View as seen;
+ghost use Rattle.group_laws.specs.View.{is_in};
 ghost use Rattle.group_laws.specs.Primary as primary;
+ghost use Rattle.group_laws.specs.Verdict as decided;
 ghost use Rattle.group_laws.specs.Life as lives;
 ghost use Rattle.group_laws.specs.World as run;
 ghost use Rattle.group_lives.specs.Lives.{law_cert, life_of, run_of};
-ghost use Rattle.group_lives.specs.Sound.{HasSets, IsFounders};
+ghost use Rattle.group_lives.specs.Sound.{HasSets, IsFounders, HasToldSets, AddsNew};
 
 /// A life has executed what its history has.
 pub fn executed_sets_agree()
@@ -29,6 +35,22 @@ pub fn founders_lists_agree()
     ensures certified { (s : Setup) (base : List law.Placed) (l : Life) → IsFounders s l
         → law.certified s (lives.marked (life_of base l)) ≡ map law_cert (certs l) }
     ensures view { (s : Setup) (base : List law.Placed) (l : Life) → IsFounders s l → primary.view s (lives.taken (life_of base l)) ≡ view s l }
+{}
+
+/// The view after a list has a seat for each incarnation that is a member, ONLINE where it is active, if none is added twice.
+pub fn seats_are_members()
+    ensures seated { (s : Setup) (p : List law.Value) (m : Inc) → AddsNew s p → is_seated (primary.view s p) m ≡ is_in (seen.standing s p m) }
+    ensures online { (s : Setup) (p : List law.Value) (m : Inc) → AddsNew s p → is_online (primary.view s p) m ≡ seen.active s p m }
+{}
+
+/// A founder's life has the told sets, the stable set and the next numbers of its history.
+pub fn founders_certify_alike()
+    ensures told { (s : Setup) (base : List law.Placed) (l : Life) (m : Inc) → IsFounders s l
+        → told_of (told l) m ≡ seen.told (lives.taken (life_of base l)) m }
+    ensures stable { (s : Setup) (base : List law.Placed) (l : Life) (g : Gtid) → IsFounders s l → HasToldSets l → AddsNew s (lives.taken (life_of base l))
+        → has (stable s l) g ≡ seen.stable s (lives.taken (life_of base l)) g }
+    ensures numbers { (s : Setup) (base : List law.Placed) (l : Life) (m : Inc) → IsFounders s l
+        → (next_gtid s.limits (certifier s l) m).number ≡ decided.next_number s (law.certified s (lives.marked (life_of base l))) m }
 {}
 
 /// The life of an incarnation in the run of a world is that of its history.

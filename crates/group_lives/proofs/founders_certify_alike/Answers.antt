@@ -1,0 +1,12 @@
+use Rattle.group_lives.proofs.Numbers.{told_agrees, numbers_agree}
+use Rattle.group_lives.proofs.Stable.{stable_agrees}
+use Rattle.group_lives.proofs.founders_certify_alike.Goals as goal
+
+pub returns-clause-told : goal.returns-clause-told
+returns-clause-told c = told_agrees
+
+pub returns-clause-stable : goal.returns-clause-stable
+returns-clause-stable c = stable_agrees
+
+pub returns-clause-numbers : goal.returns-clause-numbers
+returns-clause-numbers c = λ s base l m h. numbers_agree s m base l h
