@@ -4,3 +4,5 @@ pub mod Runs
 pub mod Numbers
 pub mod Standings
 pub mod Stable
+pub mod Kept
+pub mod Certified

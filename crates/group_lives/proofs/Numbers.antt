@@ -4,8 +4,6 @@ use Rattle.std.specs.Prelude.{Option, Some, None}
 use Rattle.std.proofs.lemmas.Bool.{false≢true}
 use Rattle.gr_ids.specs.declared.names.Inc.{Inc}
 use Rattle.gr_ids.specs.declared.names.ValueId.{ValueId}
-use Rattle.gr_ids.specs.declared.names.Gtid.{Gtid}
-use Rattle.gr_ids.specs.declared.levels.MemberState.{MemberState}
 use Rattle.gr_ids.specs.Names.{inc_eq, inc_lt}
 use Rattle.gtid_sets.specs.Sets.{Gtids}
 use Rattle.slot_values.specs.declared.value.What.{What}
@@ -13,10 +11,8 @@ use Rattle.slot_values.specs.declared.value.What.TheVariants.{Noop, Add, Remove,
 use Rattle.txn_forms.specs.declared.body.Body.{Body}
 use Rattle.txn_forms.specs.declared.body.Body.TheVariants.{Txn as Writes, Executed, Online as Arrives}
 use Rattle.group_rules.specs.Names.{LastNumber, ToldSet, KeptItem}
-use Rattle.group_rules.specs.declared.answers.Answer.{Answer}
-use Rattle.group_rules.specs.declared.marks.Cause.{Cause}
 use Rattle.group_rules.specs.declared.marks.Effect.{Effect}
-use Rattle.group_rules.specs.declared.marks.Effect.TheVariants.{Plain, Void, Unread, Positive, Conflict}
+use Rattle.group_rules.specs.declared.marks.Effect.TheVariants.{Plain, Positive}
 use Rattle.group_rules.specs.Events.{Founds, Starts, Made, Took, Is, Answered, Restores, Enters, Life, Cert, Setup, Entry}
 use Rattle.group_rules.specs.Life.{certs, cert_by, view}
 use Rattle.group_rules.specs.View.{View}
@@ -26,7 +22,7 @@ use Rattle.group_laws.specs.Entries as law
 use Rattle.group_laws.specs.View as seen
 use Rattle.group_laws.specs.Verdict as decided
 use Rattle.group_laws.specs.Life as lives
-use Rattle.group_laws.proofs.Names.{inc_eq_same, inc_eq_itself}
+use Rattle.group_laws.proofs.Names.{inc_eq_same}
 use Rattle.group_lives.specs.Lives.{does_entry, law_cert, life_of}
 use Rattle.group_lives.specs.Sound.{IsEffect, IsFounders}
 use Rattle.group_lives.proofs.Founders.{certs_agree, skip_answer, skip_state, skip_made}
@@ -64,8 +60,8 @@ last_with (x ∷ xs) n m = go (inc_lt n.inc x.inc) (inc_eq n.inc x.inc) (inc_eq 
 -- ---- the numbers given
 
 forgets : (s : Setup) (l : Life) (c : Certifier) (ks : List KeptItem) → ((forget_stable s l c ks).last ≡ c.last) × ((forget_stable s l c ks).blocks ≡ c.blocks)
-forgets s l c [] = (refl , refl)
-forgets s l c (k ∷ ks) = (refl , refl)
+forgets s l c [] = (refl, refl)
+forgets s l c (k ∷ ks) = (refl, refl)
 
 module _ (s : Setup) (m : Inc) where
   -- the last number of `m` in the list, and how many blocks are taken
@@ -80,7 +76,7 @@ module _ (s : Setup) (m : Inc) where
 
   number_here : (p : ℕ) (i : ValueId) (e : Effect) (b : Option Body) (c : Certifier) (cs : List Cert) → SameNumbers c cs
       → SameNumbers (certified_by s.limits p i.origin e b c) (cert_by p i e b ++ cs)
-  number_here p i (Positive g) (Some (Writes t)) c cs h = (go (inc_eq i.origin m) refl , ap (λ (n : ℕ). cond (opens_block s.limits.block g.number) (suc n) n) h.1)
+  number_here p i (Positive g) (Some (Writes t)) c cs h = (go (inc_eq i.origin m) refl, ap (λ (n : ℕ). cond (opens_block s.limits.block g.number) (suc n) n) h.1)
     where
       go : (b : Bool) → inc_eq i.origin m ≡ b → last_of (with_last c.last (record { inc = i.origin; number = g.number })) m ≡ last_in (cert_by p i (Positive g) (Some (Writes t)) ++ cs)
       go true e = last_with c.last (record { inc = i.origin; number = g.number }) m ∙ rw e refl
@@ -91,12 +87,12 @@ module _ (s : Setup) (m : Inc) where
 
   pub same_numbers : (l : Life) → IsFounders s l → SameNumbers (certifier s l) (certs l)
   same_numbers [] h = absurd h
-  same_numbers (Founds ∷ l) h = subst (λ (y : Life). SameNumbers (certifier s y) (certs y)) (sym h) (refl , refl)
+  same_numbers (Founds ∷ l) h = subst (λ (y : Life). SameNumbers (certifier s y) (certs y)) (sym h) (refl, refl)
   same_numbers (Took e ∷ l) h =
       let k = number_here e.place e.value.id e.effect e.holds (certifier s l) (certs l) (same_numbers l h.1) in
       let c = with_entry s.limits e (certifier s l) in
       let f = forgets s (Took e ∷ l) c c.items in
-      (ap (λ xs. last_of xs m) f.0 ∙ k.0 , f.1 ∙ k.1)
+      (ap (λ xs. last_of xs m) f.0 ∙ k.0, f.1 ∙ k.1)
   same_numbers (Restores g cs ∷ l) h = absurd h
   same_numbers (Enters w ∷ l) h = absurd h
   same_numbers (Starts x ∷ l) h = absurd h

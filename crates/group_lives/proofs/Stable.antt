@@ -1,12 +1,12 @@
 -- The stable set of a founder is that of its life.
-use Rattle.std.proofs.Common.{◌≡◌, ◌⊎◌, ◌↔◌, inl, inr, Bool, true, false, cond, ◌&&◌, ◌||◌, List, [], ◌∷◌, map, refl, ◌∙◌, sym, ap, subst}
+use Rattle.std.proofs.Common.{◌≡◌, ◌↔◌, inl, inr, Bool, true, false, cond, ◌&&◌, ◌||◌, List, [], ◌∷◌, refl, ◌∙◌, sym, ap, subst}
 use Rattle.std.specs.Prelude.{Option, Some, None, filter}
-use Rattle.std.specs.List.{list_any, list_all}
+use Rattle.std.specs.List.{list_all}
 use Rattle.std.proofs.lemmas.Bool.{false≢true}
 use Rattle.gr_ids.specs.declared.names.Inc.{Inc}
 use Rattle.gr_ids.specs.declared.names.Gtid.{Gtid}
 use Rattle.gr_ids.specs.Names.{inc_eq}
-use Rattle.gtid_sets.specs.Sets.{Gtids, has, meet}
+use Rattle.gtid_sets.specs.Sets.{Gtids, has}
 use Rattle.gtid_sets.specs.Canonical.{IsCanonical}
 use Rattle.gtid_sets.proofs.LawLemmas.{all_meet}
 use Rattle.gtid_sets.proofs.PartLemmas.{canonical_meet}
@@ -19,7 +19,6 @@ use Rattle.group_rules.specs.Told.{told, told_of, told_after, tells, set_or_empt
 use Rattle.group_laws.specs.Lists.{Mem}
 use Rattle.group_laws.specs.Entries as law
 use Rattle.group_laws.specs.View as seen
-use Rattle.group_laws.specs.Primary as primary
 use Rattle.group_laws.specs.Life as lives
 use Rattle.group_laws.proofs.Names.{inc_eq_same, inc_eq_itself}
 use Rattle.group_laws.proofs.CodeForms.{stable_over}
@@ -27,7 +26,7 @@ use Rattle.group_lives.specs.Lives.{life_of}
 use Rattle.group_lives.specs.Sound.{IsFounders, IsToldSet, HasToldSets, AddsNew}
 use Rattle.group_lives.proofs.Founders.{views_agree}
 use Rattle.group_lives.proofs.Numbers.{told_here, told_agrees}
-use Rattle.group_lives.proofs.Standings.{sat, up, stands}
+use Rattle.group_lives.proofs.Standings.{up, stands}
 
 -- ---- what these have in common
 
@@ -74,6 +73,7 @@ is_up (s ∷ ss) m h = go (is_online_state s.state) refl h (is_up ss m)
     right : (a : Bool) → (a || true) ≡ true
     right true = refl
     right false = refl
+
     go : (b : Bool) → is_online_state s.state ≡ b → Mem m (seated (cond b (s ∷ filter (λ s. is_online_state s.state) ss) (filter (λ s. is_online_state s.state) ss)))
         → (Mem m (seated (filter (λ s. is_online_state s.state) ss)) → up ss m ≡ true) → up (s ∷ ss) m ≡ true
     go true e (inl q) k = rw (e) (ap (λ (z : Inc). (inc_eq z m && true) || up ss m) q ∙ ap (λ (z : Bool). (z && true) || up ss m) (inc_eq_itself m))
@@ -122,7 +122,7 @@ stable_agrees s base l g h k a =
     let os = online_incs (view s l) in
     has_common (told l) (λ m. sound_sets s l m h k) g os
     ∙ same_common (told_of (told l)) (seen.told p) g os (λ m. told_agrees s base l m h)
-    ∙ over_online s p g os (λ m. (λ i. sym (online m) ∙ is_up (view s l).seats m i , λ e. is_there (view s l).seats m (online m ∙ e)))
+    ∙ over_online s p g os (λ m. (λ i. sym (online m) ∙ is_up (view s l).seats m i, λ e. is_there (view s l).seats m (online m ∙ e)))
   where
     online : (m : Inc) → up (view s l).seats m ≡ seen.active s (lives.taken (life_of base l)) m
     online m = ap (λ (v : View). up v.seats m) (sym (views_agree s base l h)) ∙ (stands s (lives.taken (life_of base l)) m a).1

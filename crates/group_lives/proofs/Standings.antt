@@ -4,7 +4,6 @@ use Rattle.std.specs.Prelude.{Option, Some, None, filter}
 use Rattle.std.specs.List.{list_any}
 use Rattle.std.proofs.lemmas.Bool.{false≢true}
 use Rattle.gr_ids.specs.declared.names.Inc.{Inc}
-use Rattle.gr_ids.specs.declared.levels.MemberState.{MemberState}
 use Rattle.gr_ids.specs.declared.levels.MemberState.TheVariants.{Online as IsUp, Recovering as IsComing}
 use Rattle.gr_ids.specs.declared.levels.Mode.TheVariants.{Single}
 use Rattle.gr_ids.specs.Names.{inc_eq, inc_lt, has_inc}
@@ -15,7 +14,7 @@ use Rattle.txn_forms.specs.declared.body.Body.TheVariants.{Online as Arrives, Mo
 use Rattle.txn_forms.specs.declared.body.ModeChange.{ModeChange}
 use Rattle.txn_forms.specs.declared.body.ModeChange.TheVariants.{Multi as ToMulti, Single as ToSingle}
 use Rattle.group_rules.specs.Events.{Setup}
-use Rattle.group_rules.specs.View.{View, is_single, has_primary, elect, joiners, online_seats, is_online_state, is_seated, is_online, settled, with_primary, with_named, with_seat, comes_online, void_if, is_idle, changed_view, next_view}
+use Rattle.group_rules.specs.View.{View, is_single, has_primary, elect, joiners, online_seats, is_online_state, is_online, settled, with_primary, with_named, with_seat, comes_online, void_if, is_idle, changed_view, next_view}
 use Rattle.group_laws.specs.Entries.{Body, Write, Executed, Online, Joins, Leaves, Prepared, Switches, Appoints, Plain, Value}
 use Rattle.group_laws.specs.View.{Standing, Absent, Recovering, Active, Gone, on_join, on_online, on_leave, stands_after, founders, standing, is_in, is_active}
 use Rattle.group_laws.specs.Primary.{view_after, view}
@@ -136,6 +135,7 @@ up_online (s ∷ ss) o m = go (inc_eq s.joiner.inc o) (inc_eq o m) (inc_eq s.joi
   where
     itself : (x y : Inc) → x ≡ y → inc_eq x y ≡ true
     itself x y e = subst (λ (z : Inc). inc_eq x z ≡ true) e (inc_eq_itself x)
+
     go : (a b c : Bool) → inc_eq s.joiner.inc o ≡ a → inc_eq o m ≡ b → inc_eq s.joiner.inc m ≡ c
         → up (comes_online ss o) m ≡ cond (inc_eq o m) (sat ss m) (up ss m) → up (comes_online (s ∷ ss) o) m ≡ cond (inc_eq o m) (sat (s ∷ ss) m) (up (s ∷ ss) m)
     go true true true p q r k = rw (p, q, r) refl
@@ -161,10 +161,10 @@ abbrev pub StandsAs : List Seat → Inc → Standing → Type 0
 StandsAs ss m x = (sat ss m ≡ is_in x) × (up ss m ≡ is_active x)
 
 founded : (js : List Joiner) (m : Inc) → let ss = map {A = Joiner} {B = Seat} (λ j. record { joiner = j; state = IsUp }) js in (sat ss m ≡ has_inc (map (λ j. j.inc) js) m) × (up ss m ≡ has_inc (map (λ j. j.inc) js) m)
-founded [] m = (refl , refl)
+founded [] m = (refl, refl)
 founded (j ∷ js) m =
     let k = founded js m in
-    (ap (λ (z : Bool). inc_eq j.inc m || z) k.0 , (λ i. and_itself (inc_eq j.inc m) i || k.1 i))
+    (ap (λ (z : Bool). inc_eq j.inc m || z) k.0, (λ i. and_itself (inc_eq j.inc m) i || k.1 i))
   where
     and_itself : (a : Bool) → (a && true) ≡ a
     and_itself true = refl
@@ -172,11 +172,11 @@ founded (j ∷ js) m =
 
 module _ (m o : Inc) where
   online_here : (b : Bool) (x : Standing) (ss : List Seat) → inc_eq o m ≡ b → StandsAs ss m x → StandsAs (comes_online ss o) m (cond b (on_online x) x)
-  online_here false x ss e h = (sat_online ss o m ∙ h.0 , up_online ss o m ∙ ap (λ (z : Bool). cond z (sat ss m) (up ss m)) e ∙ h.1)
-  online_here true Absent ss e h = (sat_online ss o m ∙ h.0 , up_online ss o m ∙ ap (λ (z : Bool). cond z (sat ss m) (up ss m)) e ∙ h.0)
-  online_here true Recovering ss e h = (sat_online ss o m ∙ h.0 , up_online ss o m ∙ ap (λ (z : Bool). cond z (sat ss m) (up ss m)) e ∙ h.0)
-  online_here true Active ss e h = (sat_online ss o m ∙ h.0 , up_online ss o m ∙ ap (λ (z : Bool). cond z (sat ss m) (up ss m)) e ∙ h.0)
-  online_here true Gone ss e h = (sat_online ss o m ∙ h.0 , up_online ss o m ∙ ap (λ (z : Bool). cond z (sat ss m) (up ss m)) e ∙ h.0)
+  online_here false x ss e h = (sat_online ss o m ∙ h.0, up_online ss o m ∙ ap (λ (z : Bool). cond z (sat ss m) (up ss m)) e ∙ h.1)
+  online_here true Absent ss e h = (sat_online ss o m ∙ h.0, up_online ss o m ∙ ap (λ (z : Bool). cond z (sat ss m) (up ss m)) e ∙ h.0)
+  online_here true Recovering ss e h = (sat_online ss o m ∙ h.0, up_online ss o m ∙ ap (λ (z : Bool). cond z (sat ss m) (up ss m)) e ∙ h.0)
+  online_here true Active ss e h = (sat_online ss o m ∙ h.0, up_online ss o m ∙ ap (λ (z : Bool). cond z (sat ss m) (up ss m)) e ∙ h.0)
+  online_here true Gone ss e h = (sat_online ss o m ∙ h.0, up_online ss o m ∙ ap (λ (z : Bool). cond z (sat ss m) (up ss m)) e ∙ h.0)
 
   abbrev leaving : List Seat → List Seat
   leaving ss = filter (λ s. not (inc_eq s.joiner.inc o)) ss
@@ -188,37 +188,40 @@ module _ (m o : Inc) where
   up_left ss = seat_left m (λ s. inc_eq s.joiner.inc m && is_online_state s.state) (λ s h. both_first (inc_eq s.joiner.inc m) (is_online_state s.state) h) o ss
 
   left_here : (b : Bool) (x : Standing) (ss : List Seat) → inc_eq o m ≡ b → StandsAs ss m x → StandsAs (leaving ss) m (cond b (on_leave x) x)
-  left_here false x ss e h = (sat_left ss ∙ ap (λ (z : Bool). cond z false (sat ss m)) e ∙ h.0 , up_left ss ∙ ap (λ (z : Bool). cond z false (up ss m)) e ∙ h.1)
-  left_here true Absent ss e h = (sat_left ss ∙ ap (λ (z : Bool). cond z false (sat ss m)) e , up_left ss ∙ ap (λ (z : Bool). cond z false (up ss m)) e)
-  left_here true Recovering ss e h = (sat_left ss ∙ ap (λ (z : Bool). cond z false (sat ss m)) e , up_left ss ∙ ap (λ (z : Bool). cond z false (up ss m)) e)
-  left_here true Active ss e h = (sat_left ss ∙ ap (λ (z : Bool). cond z false (sat ss m)) e , up_left ss ∙ ap (λ (z : Bool). cond z false (up ss m)) e)
-  left_here true Gone ss e h = (sat_left ss ∙ ap (λ (z : Bool). cond z false (sat ss m)) e , up_left ss ∙ ap (λ (z : Bool). cond z false (up ss m)) e)
+  left_here false x ss e h = (sat_left ss ∙ ap (λ (z : Bool). cond z false (sat ss m)) e ∙ h.0, up_left ss ∙ ap (λ (z : Bool). cond z false (up ss m)) e ∙ h.1)
+  left_here true Absent ss e h = (sat_left ss ∙ ap (λ (z : Bool). cond z false (sat ss m)) e, up_left ss ∙ ap (λ (z : Bool). cond z false (up ss m)) e)
+  left_here true Recovering ss e h = (sat_left ss ∙ ap (λ (z : Bool). cond z false (sat ss m)) e, up_left ss ∙ ap (λ (z : Bool). cond z false (up ss m)) e)
+  left_here true Active ss e h = (sat_left ss ∙ ap (λ (z : Bool). cond z false (sat ss m)) e, up_left ss ∙ ap (λ (z : Bool). cond z false (up ss m)) e)
+  left_here true Gone ss e h = (sat_left ss ∙ ap (λ (z : Bool). cond z false (sat ss m)) e, up_left ss ∙ ap (λ (z : Bool). cond z false (up ss m)) e)
 
 joins_here : (m : Inc) (j : Joiner) (b : Bool) (x : Standing) (ss : List Seat) → inc_eq j.inc m ≡ b → (b ≡ true → x ≡ Absent) → StandsAs ss m x
     → StandsAs (with_seat ss (record { joiner = j; state = IsComing })) m (cond b (on_join x) x)
-joins_here m j false x ss e n h =
-    ( seat_more (λ s. inc_eq s.joiner.inc m) ss (record { joiner = j; state = IsComing }) ∙ ap (λ (z : Bool). z || sat ss m) e ∙ h.0
-    , seat_more (λ s. inc_eq s.joiner.inc m && is_online_state s.state) ss (record { joiner = j; state = IsComing }) ∙ ap (λ (z : Bool). (z && false) || up ss m) e ∙ h.1 )
-joins_here m j true x ss e n h =
-    ( seat_more (λ s. inc_eq s.joiner.inc m) ss (record { joiner = j; state = IsComing }) ∙ ap (λ (z : Bool). z || sat ss m) e ∙ ap (λ (z : Standing). is_in (on_join z)) (sym (n refl))
-    , seat_more (λ s. inc_eq s.joiner.inc m && is_online_state s.state) ss (record { joiner = j; state = IsComing }) ∙ ap (λ (z : Bool). (z && false) || up ss m) e
-      ∙ h.1 ∙ ap is_active (n refl) ∙ ap (λ (z : Standing). is_active (on_join z)) (sym (n refl)) )
+joins_here m j false x ss e n h = (
+  seat_more (λ s. inc_eq s.joiner.inc m) ss (record { joiner = j; state = IsComing }) ∙ ap (λ (z : Bool). z || sat ss m) e ∙ h.0,
+  seat_more (λ s. inc_eq s.joiner.inc m && is_online_state s.state) ss (record { joiner = j; state = IsComing }) ∙ ap (λ (z : Bool). (z && false) || up ss m) e ∙ h.1,
+)
+joins_here m j true x ss e n h = (
+  seat_more (λ s. inc_eq s.joiner.inc m) ss (record { joiner = j; state = IsComing }) ∙ ap (λ (z : Bool). z || sat ss m) e ∙ ap (λ (z : Standing). is_in (on_join z)) (sym (n refl)),
+  seat_more (λ s. inc_eq s.joiner.inc m && is_online_state s.state) ss (record { joiner = j; state = IsComing }) ∙ ap (λ (z : Bool). (z && false) || up ss m) e
+      ∙ h.1 ∙ ap is_active (n refl) ∙ ap (λ (z : Standing). is_active (on_join z)) (sym (n refl)),
+)
 
 pub stands : (r : Setup) (p : List Value) (m : Inc) → AddsNew r p → StandsAs (view r p).seats m (standing r p m)
 stands r [] m h =
     let k = founded r.founders m in
     let s = settled_seats 0 (record { number = 1; mode = r.mode; primary = None; elected = 0; seats = map {A = Joiner} {B = Seat} (λ j. record { joiner = j; state = IsUp }) r.founders }) in
-    (ap (λ ss. sat ss m) s ∙ k.0 ∙ by_in (has_inc (founders r) m) , ap (λ ss. up ss m) s ∙ k.1 ∙ by_active (has_inc (founders r) m))
+    (ap (λ ss. sat ss m) s ∙ k.0 ∙ by_in (has_inc (founders r) m), ap (λ ss. up ss m) s ∙ k.1 ∙ by_active (has_inc (founders r) m))
   where
     by_in : (b : Bool) → b ≡ is_in (cond b Active Absent)
     by_in true = refl
     by_in false = refl
+
     by_active : (b : Bool) → b ≡ is_active (cond b Active Absent)
     by_active true = refl
     by_active false = refl
 stands r (v ∷ p) m h =
     subst (λ (ss : List Seat). StandsAs ss m (standing r (v ∷ p) m)) (sym (after_seats (suc (length p)) v.origin v.body (view r p)))
-        (by_body v.body h.0 (stands r p m h.1))
+    (by_body v.body h.0 (stands r p m h.1))
   where
     by_body : (b : Body) → IsNew r p b → StandsAs (view r p).seats m (standing r p m) → StandsAs (seats_after v.origin b (view r p).seats) m (stands_after m v.origin b (standing r p m))
     by_body (Joins j) n k = joins_here m j (inc_eq j.inc m) (standing r p m) (view r p).seats refl (λ e. ap (standing r p) (sym (inc_eq_same j.inc m e)) ∙ n) k

@@ -8,11 +8,12 @@ ghost use Rattle.std.specs.Prelude.{◌≡◌, List, length, map};
 ghost use Rattle.gr_ids.specs.declared.names.Inc.{Inc};
 ghost use Rattle.gr_ids.specs.declared.names.Gtid.{Gtid};
 ghost use Rattle.gtid_sets.specs.Sets.{has};
+ghost use Rattle.txn_forms.specs.declared.body.Txn.{Txn};
 ghost use Rattle.group_rules.specs.Events.{Life, Setup};
 ghost use Rattle.group_rules.specs.Life.{executed, taken, view, certs};
 ghost use Rattle.group_rules.specs.View.{is_seated, is_online};
 ghost use Rattle.group_rules.specs.Told.{told, told_of, stable};
-ghost use Rattle.group_rules.specs.Certifier.{certifier, next_gtid};
+ghost use Rattle.group_rules.specs.Certifier.{certifier, next_gtid, verdict};
 ghost use Rattle.group_rules.specs.World.{Past, life_in};
 ghost use Rattle.group_laws.specs.Entries as law;
 ghost use Rattle.group_laws.specs.View as seen;
@@ -21,7 +22,7 @@ ghost use Rattle.group_laws.specs.Primary as primary;
 ghost use Rattle.group_laws.specs.Verdict as decided;
 ghost use Rattle.group_laws.specs.Life as lives;
 ghost use Rattle.group_laws.specs.World as run;
-ghost use Rattle.group_lives.specs.Lives.{law_cert, life_of, run_of};
+ghost use Rattle.group_lives.specs.Lives.{law_cert, outcome_of, life_of, run_of};
 ghost use Rattle.group_lives.specs.Sound.{HasSets, IsFounders, HasToldSets, AddsNew};
 
 /// A life has executed what its history has.
@@ -43,7 +44,7 @@ pub fn seats_are_members()
     ensures online { (s : Setup) (p : List law.Value) (m : Inc) → AddsNew s p → is_online (primary.view s p) m ≡ seen.active s p m }
 {}
 
-/// A founder's life has the told sets, the stable set and the next numbers of its history.
+/// A founder's life has the told sets, the stable set, the next numbers and the verdicts of its history.
 pub fn founders_certify_alike()
     ensures told { (s : Setup) (base : List law.Placed) (l : Life) (m : Inc) → IsFounders s l
         → told_of (told l) m ≡ seen.told (lives.taken (life_of base l)) m }
@@ -51,6 +52,8 @@ pub fn founders_certify_alike()
         → has (stable s l) g ≡ seen.stable s (lives.taken (life_of base l)) g }
     ensures numbers { (s : Setup) (base : List law.Placed) (l : Life) (m : Inc) → IsFounders s l
         → (next_gtid s.limits (certifier s l) m).number ≡ decided.next_number s (law.certified s (lives.marked (life_of base l))) m }
+    ensures verdicts { (s : Setup) (base : List law.Placed) (l : Life) (o : Inc) (t : Txn) → IsFounders s l → HasToldSets l → AddsNew s (lives.taken (life_of base l))
+        → outcome_of (verdict s.limits (certifier s l) o t) ≡ decided.kept_parts s (lives.marked (life_of base l)) o (law.Write t) }
 {}
 
 /// The life of an incarnation in the run of a world is that of its history.

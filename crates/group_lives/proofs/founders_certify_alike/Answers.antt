@@ -1,5 +1,6 @@
 use Rattle.group_lives.proofs.Numbers.{told_agrees, numbers_agree}
 use Rattle.group_lives.proofs.Stable.{stable_agrees}
+use Rattle.group_lives.proofs.Certified.{verdicts_agree}
 use Rattle.group_lives.proofs.founders_certify_alike.Goals as goal
 
 pub returns-clause-told : goal.returns-clause-told
@@ -10,3 +11,6 @@ returns-clause-stable c = stable_agrees
 
 pub returns-clause-numbers : goal.returns-clause-numbers
 returns-clause-numbers c = λ s base l m h. numbers_agree s m base l h
+
+pub returns-clause-verdicts : goal.returns-clause-verdicts
+returns-clause-verdicts c = verdicts_agree
