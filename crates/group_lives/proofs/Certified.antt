@@ -1,4 +1,4 @@
--- A founder keeps the items that its life keeps, and its verdicts are those of these items.
+-- A history keeps the items that its life keeps, and its verdicts are those of these items.
 use Rattle.std.proofs.Common.{◌≡◌, inl, inr, ℕ, suc, ◌≤◌, Bool, true, false, cond, not, ◌&&◌, ltb, ltb-true, ltb-false, List, [], ◌∷◌, length, refl, ◌∙◌, sym, ap, subst, arith}
 use Rattle.std.specs.Prelude.{Option, Some, None, nat_lt}
 use Rattle.std.proofs.lemmas.Bool.{false≢true, and_parts, and_from}
@@ -30,12 +30,13 @@ use Rattle.group_laws.specs.Life as lives
 use Rattle.group_laws.proofs.Lists.{any_mem, any_from}
 use Rattle.group_laws.proofs.Certs.{same_place}
 use Rattle.group_laws.proofs.KeptIsScan.{kept_is_writer, blocker_is, blocker_late}
+use Rattle.group_lives.specs.Given.{Writer, writer_of, AllAbove, Sorted, pair_of, SameWriters}
 use Rattle.group_lives.specs.Lives.{does_entry, outcome_of, placed, life_of}
-use Rattle.group_lives.specs.Sound.{IsEffect, IsFounders, HasToldSets, AddsNew}
-use Rattle.group_lives.proofs.Founders.{places_agree, skip_answer, skip_state, skip_made}
+use Rattle.group_lives.specs.Sound.{IsEffect, IsTaking, HasToldSets, AddsNew}
+use Rattle.group_lives.proofs.Taking.{places_agree, skip_answer, skip_state, skip_made}
 use Rattle.group_lives.proofs.Numbers.{numbers_agree}
 use Rattle.group_lives.proofs.Stable.{stable_agrees}
-use Rattle.group_lives.proofs.Kept.{Writer, writer_of, AllAbove, Sorted, writer_written, sorted_written, unless_in, writer_filter, sorted_filter, lt_not_eq}
+use Rattle.group_lives.proofs.Kept.{writer_written, sorted_written, unless_in, writer_filter, sorted_filter, lt_not_eq}
 
 -- ---- what the kept items answer
 
@@ -115,13 +116,6 @@ kept_as k = (k.place, k.gtid)
 
 abbrev cert_as : law.Cert → Writer
 cert_as c = (c.place, c.gtid)
-
-abbrev pub pair_of : Option law.Cert → Option Writer
-pair_of None = None
-pair_of (Some c) = Some (c.place, c.gtid)
-
-abbrev pub SameWriters : Setup → List KeptItem → List law.Placed → Type 0
-SameWriters s ks m = (i : Item) → writer_of ks i ≡ pair_of (decided.kept_writer s m i)
 
 -- the writer that the list keeps of an item
 cert_at : (o : Option law.Cert) (w : Writer) → pair_of o ≡ Some w → (c : law.Cert) × (o ≡ Some c) × ((c.place, c.gtid) ≡ w)
@@ -256,37 +250,37 @@ both_forget s r p (Some c) h = ap (λ (b : Bool). cond b None (Some (c.place, c.
     go true = refl
     go false = refl
 
--- ---- a founder's history
+-- ---- a history
 
-sorted_items : (s : Setup) (l : Life) → IsFounders s l → Sorted (certifier s l).items
-sorted_items s [] h = absurd h
-sorted_items s (Founds ∷ l) h = subst (λ (y : Life). Sorted (certifier s y).items) (sym h) tt
-sorted_items s (Took e ∷ l) h =
+sorted_items : (s : Setup) (base : List law.Placed) (l : Life) → IsTaking s base l → Sorted (certifier s l).items
+sorted_items s base [] h = absurd h
+sorted_items s base (Founds ∷ l) h = subst (λ (y : Life). Sorted (certifier s y).items) (sym h) tt
+sorted_items s base (Took e ∷ l) h =
     let c = with_entry s.limits e (certifier s l) in
-    let k = sorted_certified s e.place e.value.id.origin e.effect e.holds (certifier s l) (sorted_items s l h.1) in
+    let k = sorted_certified s e.place e.value.id.origin e.effect e.holds (certifier s l) (sorted_items s base l h.1) in
     (one_forgets s (Took e ∷ l) c c.items (record { table = []; key = [] }) refl k).1
-sorted_items s (Restores g cs ∷ l) h = absurd h
-sorted_items s (Enters w ∷ l) h = absurd h
-sorted_items s (Starts x ∷ l) h = absurd h
-sorted_items s (d ∷ l) h = sorted_items s l h
+sorted_items s base (Restores g cs ∷ l) h = h.sorted
+sorted_items s base (Enters w ∷ l) h = absurd h
+sorted_items s base (Starts x ∷ l) h = absurd h
+sorted_items s base (d ∷ l) h = sorted_items s base l h
 
 module _ (s : Setup) (base : List law.Placed) where
   abbrev list_of : Life → List law.Placed
   list_of l = lives.marked (life_of base l)
 
-  pub same_writers : (l : Life) → IsFounders s l → HasToldSets l → AddsNew s (law.values (list_of l)) → SameWriters s (certifier s l).items (list_of l)
+  pub same_writers : (l : Life) → IsTaking s base l → HasToldSets l → AddsNew s (law.values (list_of l)) → SameWriters s (certifier s l).items (list_of l)
   same_writers [] h k a = absurd h
   same_writers (Founds ∷ l) h k a = subst (λ (y : Life). SameWriters s (certifier s y).items (list_of y)) (sym h) (λ i. refl)
   same_writers (Took e ∷ l) h k a = λ x.
       let c = with_entry s.limits e (certifier s l) in
-      let sorted = sorted_certified s e.place e.value.id.origin e.effect e.holds (certifier s l) (sorted_items s l h.1) in
+      let sorted = sorted_certified s e.place e.value.id.origin e.effect e.holds (certifier s l) (sorted_items s base l h.1) in
       let n : e.place ≡ suc (length (list_of l)) = h.0.0 ∙ sym (ap suc (places_agree s base l h.1)) in
       let w = one_writer s (view s l) e.place (suc (length (list_of l))) e.value.id e.value.what e.holds e.effect (certifier s l) (decided.kept_writer s (list_of l) x) x n h.0.1 (same_writers l h.1 k.1 a.1 x) in
       (one_forgets s (Took e ∷ l) c c.items x refl sorted).0
       ∙ ap (unless_in (stable s (Took e ∷ l))) w
       ∙ both_forget s (stable s (Took e ∷ l)) (law.values (list_of (Took e ∷ l))) (decided.if_writes x (law.cert_of s (suc (length (list_of l))) (placed e)) (decided.kept_writer s (list_of l) x))
       (λ g. stable_agrees s base (Took e ∷ l) g h k a)
-  same_writers (Restores g cs ∷ l) h k a = absurd h
+  same_writers (Restores g cs ∷ l) h k a = h.writers
   same_writers (Enters w ∷ l) h k a = absurd h
   same_writers (Starts x ∷ l) h k a = absurd h
   same_writers (Answered n y ∷ l) h k a = skip (skip_answer base n y l (life_of base l)) (same_writers l h k (subst (λ (y : List law.Placed). AddsNew s (law.values y)) (skip_answer base n y l (life_of base l)) a))
@@ -303,8 +297,8 @@ module _ (s : Setup) (base : List law.Placed) where
       skip e f = subst (SameWriters s (certifier s l).items) (sym e) f
   same_writers (d ∷ l) h k a = same_writers l h k a
 
-  pub verdicts_agree : (l : Life) (o : Inc) (t : Txn) → IsFounders s l → HasToldSets l → AddsNew s (law.values (list_of l))
+  pub verdicts_agree : (l : Life) (o : Inc) (t : Txn) → IsTaking s base l → HasToldSets l → AddsNew s (law.values (list_of l))
       → outcome_of (verdict s.limits (certifier s l) o t) ≡ decided.kept_parts s (list_of l) o (law.Write t)
   verdicts_agree l o t h k a =
-      same_verdict s (certifier s l).items (list_of l) t (sorted_items s l h) (same_writers l h k a)
+      same_verdict s (certifier s l).items (list_of l) t (sorted_items s base l h) (same_writers l h k a)
       (next_gtid s.limits (certifier s l) o) (decided.next_number s (law.certified s (list_of l)) o) (numbers_agree s o base l h)

@@ -10,23 +10,7 @@ use Rattle.key_items.proofs.Order.{Stands, Below, Same, Above, stands, item_lt_t
 use Rattle.group_rules.specs.Names.{KeptItem}
 use Rattle.group_rules.specs.Certifier.{with_kept, written_by}
 use Rattle.group_laws.specs.Lists.{Mem}
-
--- the place and the GTID of a writer
-abbrev pub Writer : Type 0
-Writer = ℕ × Gtid
-
--- the last writer that is kept of an item
-abbrev pub writer_of : List KeptItem → Item → Option Writer
-writer_of [] i = None
-writer_of (k ∷ ks) i = cond (item_eq k.item i) (Some (k.place, k.gtid)) (writer_of ks i)
-
--- each item stands once, in order
-abbrev pub AllAbove : Item → List KeptItem → Type 0
-AllAbove i ks = (k : KeptItem) → Mem k ks → item_lt i k.item ≡ true
-
-abbrev pub Sorted : List KeptItem → Type 0
-Sorted [] = Unit {0}
-Sorted (k ∷ ks) = AllAbove k.item ks × Sorted ks
+use Rattle.group_lives.specs.Given.{Writer, writer_of, AllAbove, Sorted}
 
 pub lt_not_eq : (a b : Item) → item_lt a b ≡ true → (item_eq a b ≡ false) × (item_eq b a ≡ false)
 lt_not_eq a b h = go (stands a b)

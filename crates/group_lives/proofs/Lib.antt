@@ -1,5 +1,5 @@
 pub mod Sets
-pub mod Founders
+pub mod Taking
 pub mod Runs
 pub mod Numbers
 pub mod Standings

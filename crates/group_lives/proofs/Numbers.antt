@@ -1,4 +1,4 @@
--- The numbers that a founder's certifier gives, and the sets that its members told it, are those of its life.
+-- The numbers that a certifier gives, and the sets that members told it, are those of its life.
 use Rattle.std.proofs.Common.{◌≡◌, ℕ, suc, Bool, true, false, cond, List, [], ◌∷◌, ◌++◌, map, refl, ◌∙◌, sym, ap, subst}
 use Rattle.std.specs.Prelude.{Option, Some, None}
 use Rattle.std.proofs.lemmas.Bool.{false≢true}
@@ -24,8 +24,8 @@ use Rattle.group_laws.specs.Verdict as decided
 use Rattle.group_laws.specs.Life as lives
 use Rattle.group_laws.proofs.Names.{inc_eq_same}
 use Rattle.group_lives.specs.Lives.{does_entry, law_cert, life_of}
-use Rattle.group_lives.specs.Sound.{IsEffect, IsFounders}
-use Rattle.group_lives.proofs.Founders.{certs_agree, skip_answer, skip_state, skip_made}
+use Rattle.group_lives.specs.Sound.{IsEffect, IsTaking}
+use Rattle.group_lives.proofs.Taking.{certs_agree, skip_answer, skip_state, skip_made}
 
 -- two names that differ are not both the same as a third
 apart : (a b m : Inc) → inc_eq a b ≡ false → inc_eq b m ≡ true → inc_eq a m ≡ false
@@ -63,7 +63,7 @@ forgets : (s : Setup) (l : Life) (c : Certifier) (ks : List KeptItem) → ((forg
 forgets s l c [] = (refl, refl)
 forgets s l c (k ∷ ks) = (refl, refl)
 
-module _ (s : Setup) (m : Inc) where
+module _ (s : Setup) (m : Inc) (base : List law.Placed) where
   -- the last number of `m` in the list, and how many blocks are taken
   abbrev pub last_in : List Cert → Option ℕ
   last_in cs = decided.number_in (decided.last_of m (map law_cert cs))
@@ -85,7 +85,7 @@ module _ (s : Setup) (m : Inc) where
   number_here p i (Positive g) None c cs h = h
   number_here p i e b c cs h = h
 
-  pub same_numbers : (l : Life) → IsFounders s l → SameNumbers (certifier s l) (certs l)
+  pub same_numbers : (l : Life) → IsTaking s base l → SameNumbers (certifier s l) (certs l)
   same_numbers [] h = absurd h
   same_numbers (Founds ∷ l) h = subst (λ (y : Life). SameNumbers (certifier s y) (certs y)) (sym h) (refl, refl)
   same_numbers (Took e ∷ l) h =
@@ -93,14 +93,14 @@ module _ (s : Setup) (m : Inc) where
       let c = with_entry s.limits e (certifier s l) in
       let f = forgets s (Took e ∷ l) c c.items in
       (ap (λ xs. last_of xs m) f.0 ∙ k.0, f.1 ∙ k.1)
-  same_numbers (Restores g cs ∷ l) h = absurd h
+  same_numbers (Restores g cs ∷ l) h = (h.last m , h.blocks)
   same_numbers (Enters w ∷ l) h = absurd h
   same_numbers (Starts x ∷ l) h = absurd h
   same_numbers (d ∷ l) h = same_numbers l h
 
-  pub numbers_agree : (base : List law.Placed) (l : Life) → IsFounders s l
+  pub numbers_agree : (l : Life) → IsTaking s base l
       → (next_gtid s.limits (certifier s l) m).number ≡ decided.next_number s (law.certified s (lives.marked (life_of base l))) m
-  numbers_agree base l h =
+  numbers_agree l h =
       let k = same_numbers l h in
       (λ j. number_after s.limits.block (k.1 j) (k.0 j)) ∙ ap (λ cs. decided.next_number s cs m) (sym (certs_agree s base l h))
 
@@ -161,14 +161,14 @@ told_here e (Some t) ts m = told_with ts (record { inc = e.value.id.origin; set 
     go true = refl
     go false = refl
 
-pub told_agrees : (s : Setup) (base : List law.Placed) (l : Life) (m : Inc) → IsFounders s l → told_of (told l) m ≡ seen.told (lives.taken (life_of base l)) m
+pub told_agrees : (s : Setup) (base : List law.Placed) (l : Life) (m : Inc) → IsTaking s base l → told_of (told l) m ≡ seen.told (lives.taken (life_of base l)) m
 told_agrees s base [] m h = absurd h
 told_agrees s base (Founds ∷ l) m h = subst (λ (y : Life). told_of (told y) m ≡ seen.told (lives.taken (life_of base y)) m) (sym h) refl
 told_agrees s base (Took e ∷ l) m h =
     let o = e.value.id.origin in
     told_here e (tells e.holds) (told l) m
     ∙ (λ k. seen.first_some (cond (inc_eq o m) (sym (set_here s (view s l) e.value.what e.holds e.effect h.0.1) k) None) (told_agrees s base l m h.1 k))
-told_agrees s base (Restores g cs ∷ l) m h = absurd h
+told_agrees s base (Restores g cs ∷ l) m h = h.told m
 told_agrees s base (Enters w ∷ l) m h = absurd h
 told_agrees s base (Starts x ∷ l) m h = absurd h
 told_agrees s base (Answered k a ∷ l) m h = told_agrees s base l m h ∙ sym (ap (λ (y : List law.Placed). seen.told (law.values y) m) (skip_answer base k a l (life_of base l)))

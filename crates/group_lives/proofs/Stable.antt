@@ -1,4 +1,4 @@
--- The stable set of a founder is that of its life.
+-- The stable set of a history is that of its life.
 use Rattle.std.proofs.Common.{◌≡◌, ◌↔◌, inl, inr, Bool, true, false, cond, ◌&&◌, ◌||◌, List, [], ◌∷◌, refl, ◌∙◌, sym, ap, subst}
 use Rattle.std.specs.Prelude.{Option, Some, None, filter}
 use Rattle.std.specs.List.{list_all}
@@ -22,9 +22,10 @@ use Rattle.group_laws.specs.View as seen
 use Rattle.group_laws.specs.Life as lives
 use Rattle.group_laws.proofs.Names.{inc_eq_same, inc_eq_itself}
 use Rattle.group_laws.proofs.CodeForms.{stable_over}
+use Rattle.group_lives.specs.Given.{IsToldSet}
 use Rattle.group_lives.specs.Lives.{life_of}
-use Rattle.group_lives.specs.Sound.{IsFounders, IsToldSet, HasToldSets, AddsNew}
-use Rattle.group_lives.proofs.Founders.{views_agree}
+use Rattle.group_lives.specs.Sound.{IsTaking, HasToldSets, AddsNew}
+use Rattle.group_lives.proofs.Taking.{views_agree}
 use Rattle.group_lives.proofs.Numbers.{told_here, told_agrees}
 use Rattle.group_lives.proofs.Standings.{up, stands}
 
@@ -102,25 +103,25 @@ sound_here e o ts m ho ht = subst IsToldSet (sym (told_here e o ts m)) (go (inc_
     go true None h = ht
     go false o h = ht
 
-sound_sets : (s : Setup) (l : Life) (m : Inc) → IsFounders s l → HasToldSets l → IsToldSet (told_of (told l) m)
-sound_sets s [] m h k = absurd h
-sound_sets s (Founds ∷ l) m h k = subst (λ (y : Life). IsToldSet (told_of (told y) m)) (sym h) tt
-sound_sets s (Took e ∷ l) m h k = sound_here e (tells e.holds) (told l) m k.0 (sound_sets s l m h.1 k.1)
-sound_sets s (Restores g cs ∷ l) m h k = absurd h
-sound_sets s (Enters w ∷ l) m h k = absurd h
-sound_sets s (Starts x ∷ l) m h k = absurd h
-sound_sets s (d ∷ l) m h k = sound_sets s l m h k
+sound_sets : (s : Setup) (base : List law.Placed) (l : Life) (m : Inc) → IsTaking s base l → HasToldSets l → IsToldSet (told_of (told l) m)
+sound_sets s base [] m h k = absurd h
+sound_sets s base (Founds ∷ l) m h k = subst (λ (y : Life). IsToldSet (told_of (told y) m)) (sym h) tt
+sound_sets s base (Took e ∷ l) m h k = sound_here e (tells e.holds) (told l) m k.0 (sound_sets s base l m h.1 k.1)
+sound_sets s base (Restores g cs ∷ l) m h k = h.sound m
+sound_sets s base (Enters w ∷ l) m h k = absurd h
+sound_sets s base (Starts x ∷ l) m h k = absurd h
+sound_sets s base (d ∷ l) m h k = sound_sets s base l m h k
 
 over_online : (r : Setup) (p : List law.Value) (g : Gtid) (os : List Inc) → ((m : Inc) → Mem m os ↔ (seen.active r p m ≡ true)) → common (seen.told p) g os ≡ seen.stable r p g
 over_online r p g [] h = sym (stable_over r p g [] h)
 over_online r p g (i ∷ is) h = sym (stable_over r p g (i ∷ is) h)
 
-pub stable_agrees : (s : Setup) (base : List law.Placed) (l : Life) (g : Gtid) → IsFounders s l → HasToldSets l → AddsNew s (lives.taken (life_of base l))
+pub stable_agrees : (s : Setup) (base : List law.Placed) (l : Life) (g : Gtid) → IsTaking s base l → HasToldSets l → AddsNew s (lives.taken (life_of base l))
     → has (stable s l) g ≡ seen.stable s (lives.taken (life_of base l)) g
 stable_agrees s base l g h k a =
     let p = lives.taken (life_of base l) in
     let os = online_incs (view s l) in
-    has_common (told l) (λ m. sound_sets s l m h k) g os
+    has_common (told l) (λ m. sound_sets s base l m h k) g os
     ∙ same_common (told_of (told l)) (seen.told p) g os (λ m. told_agrees s base l m h)
     ∙ over_online s p g os (λ m. (λ i. sym (online m) ∙ is_up (view s l).seats m i, λ e. is_there (view s l).seats m (online m ∙ e)))
   where

@@ -13,6 +13,7 @@ use Rattle.group_rules.specs.Life.{view, taken}
 use Rattle.group_rules.specs.Told.{tells}
 use Rattle.group_rules.specs.View.{View, effect_in, void_if}
 use Rattle.group_laws.specs.Entries as law
+use Rattle.group_lives.specs.Given.{IsToldSet, GivenAs}
 use Rattle.group_laws.specs.View.{Absent, standing}
 
 -- its sets are canonical
@@ -36,21 +37,17 @@ IsEffect s v (Says x) b e = IsSaidEffect s v (Says x) b e
 IsEffect s v w None e = (has_effect : Bool) × (e ≡ effect_in v has_effect w None)
 IsEffect s v w (Some b) e = ⊥
 
--- The history of a founder: each entry has the next place, and its effect.
-abbrev pub IsFounders : Setup → Life → Type 0
-IsFounders s [] = ⊥
-IsFounders s (Founds ∷ l) = l ≡ []
-IsFounders s (Took e ∷ l) = ((e.place ≡ suc (taken l)) × IsEffect s (view s l) e.value.what e.holds e.effect) × IsFounders s l
-IsFounders s (Restores g cs ∷ l) = ⊥
-IsFounders s (Enters w ∷ l) = ⊥
-IsFounders s (Starts x ∷ l) = ⊥
-IsFounders s (_ ∷ l) = IsFounders s l
+-- A history that takes a list: from the founding, or from a Give that tells of `base`; each entry has the next place, and its effect.
+abbrev pub IsTaking : Setup → List law.Placed → Life → Type 0
+IsTaking s base [] = ⊥
+IsTaking s base (Founds ∷ l) = l ≡ []
+IsTaking s base (Took e ∷ l) = ((e.place ≡ suc (taken l)) × IsEffect s (view s l) e.value.what e.holds e.effect) × IsTaking s base l
+IsTaking s base (Restores g cs ∷ l) = GivenAs s base g cs (view s l) (taken l)
+IsTaking s base (Enters w ∷ l) = ⊥
+IsTaking s base (Starts x ∷ l) = ⊥
+IsTaking s base (_ ∷ l) = IsTaking s base l
 
 -- the sets that its members told it are canonical
-abbrev pub IsToldSet : Option Gtids → Type 0
-IsToldSet None = Unit {0}
-IsToldSet (Some x) = IsCanonical x
-
 abbrev pub HasToldSets : Life → Type 0
 HasToldSets [] = Unit {0}
 HasToldSets (Took e ∷ l) = IsToldSet (tells e.holds) × HasToldSets l

@@ -23,19 +23,19 @@ ghost use Rattle.group_laws.specs.Verdict as decided;
 ghost use Rattle.group_laws.specs.Life as lives;
 ghost use Rattle.group_laws.specs.World as run;
 ghost use Rattle.group_lives.specs.Lives.{law_cert, outcome_of, life_of, run_of};
-ghost use Rattle.group_lives.specs.Sound.{HasSets, IsFounders, HasToldSets, AddsNew};
+ghost use Rattle.group_lives.specs.Sound.{HasSets, IsTaking, HasToldSets, AddsNew};
 
 /// A life has executed what its history has.
 pub fn executed_sets_agree()
     ensures { (base : List law.Placed) (l : Life) (g : Gtid) → HasSets l → lives.executed (life_of base l) g ≡ has (executed l) g }
 {}
 
-/// A founder's life has the places, the certified transactions and the view of its history.
-pub fn founders_lists_agree()
-    ensures places { (s : Setup) (base : List law.Placed) (l : Life) → IsFounders s l → length (lives.marked (life_of base l)) ≡ taken l }
-    ensures certified { (s : Setup) (base : List law.Placed) (l : Life) → IsFounders s l
+/// The life of a history that takes a list has its places, its certified transactions and its view.
+pub fn lists_agree()
+    ensures places { (s : Setup) (base : List law.Placed) (l : Life) → IsTaking s base l → length (lives.marked (life_of base l)) ≡ taken l }
+    ensures certified { (s : Setup) (base : List law.Placed) (l : Life) → IsTaking s base l
         → law.certified s (lives.marked (life_of base l)) ≡ map law_cert (certs l) }
-    ensures view { (s : Setup) (base : List law.Placed) (l : Life) → IsFounders s l → primary.view s (lives.taken (life_of base l)) ≡ view s l }
+    ensures view { (s : Setup) (base : List law.Placed) (l : Life) → IsTaking s base l → primary.view s (lives.taken (life_of base l)) ≡ view s l }
 {}
 
 /// The view after a list has a seat for each incarnation that is a member, ONLINE where it is active, if none is added twice.
@@ -44,15 +44,15 @@ pub fn seats_are_members()
     ensures online { (s : Setup) (p : List law.Value) (m : Inc) → AddsNew s p → is_online (primary.view s p) m ≡ seen.active s p m }
 {}
 
-/// A founder's life has the told sets, the stable set, the next numbers and the verdicts of its history.
-pub fn founders_certify_alike()
-    ensures told { (s : Setup) (base : List law.Placed) (l : Life) (m : Inc) → IsFounders s l
+/// And its told sets, its stable set, its next numbers and its verdicts.
+pub fn certifiers_agree()
+    ensures told { (s : Setup) (base : List law.Placed) (l : Life) (m : Inc) → IsTaking s base l
         → told_of (told l) m ≡ seen.told (lives.taken (life_of base l)) m }
-    ensures stable { (s : Setup) (base : List law.Placed) (l : Life) (g : Gtid) → IsFounders s l → HasToldSets l → AddsNew s (lives.taken (life_of base l))
+    ensures stable { (s : Setup) (base : List law.Placed) (l : Life) (g : Gtid) → IsTaking s base l → HasToldSets l → AddsNew s (lives.taken (life_of base l))
         → has (stable s l) g ≡ seen.stable s (lives.taken (life_of base l)) g }
-    ensures numbers { (s : Setup) (base : List law.Placed) (l : Life) (m : Inc) → IsFounders s l
+    ensures numbers { (s : Setup) (base : List law.Placed) (l : Life) (m : Inc) → IsTaking s base l
         → (next_gtid s.limits (certifier s l) m).number ≡ decided.next_number s (law.certified s (lives.marked (life_of base l))) m }
-    ensures verdicts { (s : Setup) (base : List law.Placed) (l : Life) (o : Inc) (t : Txn) → IsFounders s l → HasToldSets l → AddsNew s (lives.taken (life_of base l))
+    ensures verdicts { (s : Setup) (base : List law.Placed) (l : Life) (o : Inc) (t : Txn) → IsTaking s base l → HasToldSets l → AddsNew s (lives.taken (life_of base l))
         → outcome_of (verdict s.limits (certifier s l) o t) ≡ decided.kept_parts s (lives.marked (life_of base l)) o (law.Write t) }
 {}
 

@@ -1,7 +1,7 @@
 use Rattle.group_lives.proofs.Numbers.{told_agrees, numbers_agree}
 use Rattle.group_lives.proofs.Stable.{stable_agrees}
 use Rattle.group_lives.proofs.Certified.{verdicts_agree}
-use Rattle.group_lives.proofs.founders_certify_alike.Goals as goal
+use Rattle.group_lives.proofs.certifiers_agree.Goals as goal
 
 pub returns-clause-told : goal.returns-clause-told
 returns-clause-told c = told_agrees

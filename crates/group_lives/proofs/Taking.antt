@@ -1,4 +1,4 @@
--- The history of a founder and its life have the same places, certified transactions, and views.
+-- A history that takes a list and its life have the same places, certified transactions, and views.
 use Rattle.std.proofs.Common.{◌≡◌, ℕ, suc, Bool, true, false, List, [], ◌∷◌, ◌++◌, length, map, refl, ◌∙◌, sym, ap, subst}
 use Rattle.std.specs.Prelude.{Option, Some, None}
 use Rattle.gr_ids.specs.declared.names.Inc.{Inc}
@@ -23,7 +23,7 @@ use Rattle.group_laws.specs.Entries as law
 use Rattle.group_laws.specs.Primary as primary
 use Rattle.group_laws.specs.Life as lives
 use Rattle.group_lives.specs.Lives.{does_entry, outcome_of, law_cert, made_did, did_of, life_of}
-use Rattle.group_lives.specs.Sound.{IsEffect, IsFounders}
+use Rattle.group_lives.specs.Sound.{IsEffect, IsTaking}
 
 pub skip_answer : (base : List law.Placed) (s : ℕ) (a : Answer) (l : Life) (m : lives.Life) → lives.marked (did_of base (Answered s a) l ++ m) ≡ lives.marked m
 skip_answer base s (CommittedAs h) l m = refl
@@ -39,11 +39,11 @@ skip_made v b l m = refl
 
 -- ---- places
 
-pub places_agree : (s : Setup) (base : List law.Placed) (l : Life) → IsFounders s l → length (lives.marked (life_of base l)) ≡ taken l
+pub places_agree : (s : Setup) (base : List law.Placed) (l : Life) → IsTaking s base l → length (lives.marked (life_of base l)) ≡ taken l
 places_agree s base [] h = absurd h
 places_agree s base (Founds ∷ l) h = subst (λ (y : Life). length (lives.marked (life_of base y)) ≡ taken y) (sym h) refl
 places_agree s base (Took e ∷ l) h = ap suc (places_agree s base l h.1) ∙ sym h.0.0
-places_agree s base (Restores g cs ∷ l) h = absurd h
+places_agree s base (Restores g cs ∷ l) h = h.places
 places_agree s base (Enters w ∷ l) h = absurd h
 places_agree s base (Starts x ∷ l) h = absurd h
 places_agree s base (Answered k a ∷ l) h = ap length (skip_answer base k a l (life_of base l)) ∙ places_agree s base l h
@@ -74,7 +74,7 @@ one_cert s v p i (Add j) None e cs h = refl
 one_cert s v p i (Remove j) None Plain cs h = refl
 one_cert s v p i (Remove j) None e cs h = refl
 
-pub certs_agree : (s : Setup) (base : List law.Placed) (l : Life) → IsFounders s l → law.certified s (lives.marked (life_of base l)) ≡ map law_cert (certs l)
+pub certs_agree : (s : Setup) (base : List law.Placed) (l : Life) → IsTaking s base l → law.certified s (lives.marked (life_of base l)) ≡ map law_cert (certs l)
 certs_agree s base [] h = absurd h
 certs_agree s base (Founds ∷ l) h = subst (λ (y : Life). law.certified s (lives.marked (life_of base y)) ≡ map law_cert (certs y)) (sym h) refl
 certs_agree s base (Took e ∷ l) h = go (certs_agree s base l h.1) (ap suc (places_agree s base l h.1) ∙ sym h.0.0)
@@ -84,7 +84,7 @@ certs_agree s base (Took e ∷ l) h = go (certs_agree s base l h.1) (ap suc (pla
         let x : law.certified s (lives.marked (life_of base (Took e ∷ l))) ≡ law.cons_some (law.cert_parts s e.place e.value.id.origin e.value.id.number (does_entry e.value.what e.effect e.holds) (outcome_of e.effect)) (map law_cert (certs l)) =
         λ k. law.cons_some (law.cert_parts s (n k) e.value.id.origin e.value.id.number (does_entry e.value.what e.effect e.holds) (outcome_of e.effect)) (q k) in
         x ∙ one_cert s (view s l) e.place e.value.id e.value.what e.holds e.effect (certs l) h.0.1
-certs_agree s base (Restores g cs ∷ l) h = absurd h
+certs_agree s base (Restores g cs ∷ l) h = h.certified
 certs_agree s base (Enters w ∷ l) h = absurd h
 certs_agree s base (Starts x ∷ l) h = absurd h
 certs_agree s base (Answered k a ∷ l) h = ap (law.certified s) (skip_answer base k a l (life_of base l)) ∙ certs_agree s base l h
@@ -124,7 +124,7 @@ length_values : (m : List law.Placed) → length (law.values m) ≡ length m
 length_values [] = refl
 length_values (e ∷ m) = ap suc (length_values m)
 
-pub views_agree : (s : Setup) (base : List law.Placed) (l : Life) → IsFounders s l → primary.view s (lives.taken (life_of base l)) ≡ view s l
+pub views_agree : (s : Setup) (base : List law.Placed) (l : Life) → IsTaking s base l → primary.view s (lives.taken (life_of base l)) ≡ view s l
 views_agree s base [] h = absurd h
 views_agree s base (Founds ∷ l) h = subst (λ (y : Life). primary.view s (lives.taken (life_of base (Founds ∷ y))) ≡ view s (Founds ∷ y)) (sym h) refl
 views_agree s base (Took e ∷ l) h = go (views_agree s base l h.1) (ap suc (length_values (lives.marked (life_of base l)) ∙ places_agree s base l h.1) ∙ sym h.0.0)
@@ -134,7 +134,7 @@ views_agree s base (Took e ∷ l) h = go (views_agree s base l h.1) (ap suc (len
         let x : primary.view s (lives.taken (life_of base (Took e ∷ l))) ≡ primary.view_after e.place e.value.id.origin (does_entry e.value.what e.effect e.holds) (view s l) =
         λ k. primary.view_after (n k) e.value.id.origin (does_entry e.value.what e.effect e.holds) (q k) in
         x ∙ one_view s (view s l) e.place e.value.id.origin e.value.what e.holds e.effect h.0.1
-views_agree s base (Restores g cs ∷ l) h = absurd h
+views_agree s base (Restores g cs ∷ l) h = h.view
 views_agree s base (Enters w ∷ l) h = absurd h
 views_agree s base (Starts x ∷ l) h = absurd h
 views_agree s base (Answered k a ∷ l) h = ap (λ (y : List law.Placed). primary.view s (law.values y)) (skip_answer base k a l (life_of base l)) ∙ views_agree s base l h

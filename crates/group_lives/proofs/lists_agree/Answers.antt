@@ -1,5 +1,5 @@
-use Rattle.group_lives.proofs.Founders.{places_agree, certs_agree, views_agree}
-use Rattle.group_lives.proofs.founders_lists_agree.Goals as goal
+use Rattle.group_lives.proofs.Taking.{places_agree, certs_agree, views_agree}
+use Rattle.group_lives.proofs.lists_agree.Goals as goal
 
 pub returns-clause-places : goal.returns-clause-places
 returns-clause-places c = places_agree
