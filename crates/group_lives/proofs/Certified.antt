@@ -30,7 +30,7 @@ use Rattle.group_laws.specs.Life as lives
 use Rattle.group_laws.proofs.Lists.{any_mem, any_from}
 use Rattle.group_laws.proofs.Certs.{same_place}
 use Rattle.group_laws.proofs.KeptIsScan.{kept_is_writer, blocker_is, blocker_late}
-use Rattle.group_lives.specs.Given.{Writer, writer_of, AllAbove, Sorted, pair_of, SameWriters}
+use Rattle.group_lives.specs.Given.{IsHere, Writer, writer_of, AllAbove, Sorted, pair_of, SameWriters}
 use Rattle.group_lives.specs.Lives.{does_entry, outcome_of, placed, life_of}
 use Rattle.group_lives.specs.Sound.{IsEffect, IsTaking, HasToldSets, AddsNew}
 use Rattle.group_lives.proofs.Taking.{places_agree, skip_answer, skip_state, skip_made}
@@ -297,8 +297,8 @@ module _ (s : Setup) (base : List law.Placed) where
       skip e f = subst (SameWriters s (certifier s l).items) (sym e) f
   same_writers (d ∷ l) h k a = same_writers l h k a
 
-  pub verdicts_agree : (l : Life) (o : Inc) (t : Txn) → IsTaking s base l → HasToldSets l → AddsNew s (law.values (list_of l))
+  pub verdicts_agree : (l : Life) (o : Inc) (t : Txn) → IsTaking s base l → HasToldSets l → AddsNew s (law.values (list_of l)) → IsHere s (law.values (list_of l)) o
       → outcome_of (verdict s.limits (certifier s l) o t) ≡ decided.kept_parts s (list_of l) o (law.Write t)
-  verdicts_agree l o t h k a =
+  verdicts_agree l o t h k a z =
       same_verdict s (certifier s l).items (list_of l) t (sorted_items s base l h) (same_writers l h k a)
-      (next_gtid s.limits (certifier s l) o) (decided.next_number s (law.certified s (list_of l)) o) (numbers_agree s o base l h)
+      (next_gtid s.limits (certifier s l) o) (decided.next_number s (law.certified s (list_of l)) o) (numbers_agree s o base l h z)

@@ -23,6 +23,7 @@ use Rattle.group_laws.specs.View as seen
 use Rattle.group_laws.specs.Verdict as decided
 use Rattle.group_laws.specs.Life as lives
 use Rattle.group_laws.proofs.Names.{inc_eq_same}
+use Rattle.group_lives.specs.Given.{IsHere}
 use Rattle.group_lives.specs.Lives.{does_entry, law_cert, life_of}
 use Rattle.group_lives.specs.Sound.{IsEffect, IsTaking}
 use Rattle.group_lives.proofs.Taking.{certs_agree, skip_answer, skip_state, skip_made}
@@ -59,6 +60,25 @@ last_with (x ∷ xs) n m = go (inc_lt n.inc x.inc) (inc_eq n.inc x.inc) (inc_eq 
 
 -- ---- the numbers given
 
+-- those that were removed stay so
+gone_more : (m o : Inc) (b : law.Body) (x : seen.Standing) → x ≡ seen.Gone → seen.stands_after m o b x ≡ seen.Gone
+gone_more m o b x e = ap (seen.stands_after m o b) e ∙ go b
+  where
+    same : (t : Bool) → cond t seen.Gone seen.Gone ≡ seen.Gone
+    same true = refl
+    same false = refl
+
+    go : (b : law.Body) → seen.stands_after m o b seen.Gone ≡ seen.Gone
+    go (law.Online t) = same (inc_eq o m)
+    go (law.Joins j) = same (inc_eq j.inc m)
+    go (law.Leaves j) = same (inc_eq j m)
+    go (law.Write t) = refl
+    go (law.Executed t) = refl
+    go (law.Prepared t) = refl
+    go (law.Switches t) = refl
+    go (law.Appoints t) = refl
+    go law.Plain = refl
+
 forgets : (s : Setup) (l : Life) (c : Certifier) (ks : List KeptItem) → ((forget_stable s l c ks).last ≡ c.last) × ((forget_stable s l c ks).blocks ≡ c.blocks)
 forgets s l c [] = (refl, refl)
 forgets s l c (k ∷ ks) = (refl, refl)
@@ -71,38 +91,54 @@ module _ (s : Setup) (m : Inc) (base : List law.Placed) where
   abbrev pub taken_in : List Cert → ℕ
   taken_in cs = decided.blocks_taken s.limits.block (map law_cert cs)
 
-  abbrev pub SameNumbers : Certifier → List Cert → Type 0
-  SameNumbers c cs = (last_of c.last m ≡ last_in cs) × (c.blocks ≡ taken_in cs)
+  abbrev pub SameNumbers : Type 0 → Certifier → List Cert → Type 0
+  SameNumbers P c cs = (P → last_of c.last m ≡ last_in cs) × (c.blocks ≡ taken_in cs)
 
-  number_here : (p : ℕ) (i : ValueId) (e : Effect) (b : Option Body) (c : Certifier) (cs : List Cert) → SameNumbers c cs
-      → SameNumbers (certified_by s.limits p i.origin e b c) (cert_by p i e b ++ cs)
-  number_here p i (Positive g) (Some (Writes t)) c cs h = (go (inc_eq i.origin m) refl, ap (λ (n : ℕ). cond (opens_block s.limits.block g.number) (suc n) n) h.1)
+  number_here : (p : ℕ) (i : ValueId) (e : Effect) (b : Option Body) (c : Certifier) (cs : List Cert) (P : Type 0) → SameNumbers P c cs
+      → SameNumbers P (certified_by s.limits p i.origin e b c) (cert_by p i e b ++ cs)
+  number_here p i (Positive g) (Some (Writes t)) c cs P h = ((λ q. go q (inc_eq i.origin m) refl), ap (λ (n : ℕ). cond (opens_block s.limits.block g.number) (suc n) n) h.1)
     where
-      go : (b : Bool) → inc_eq i.origin m ≡ b → last_of (with_last c.last (record { inc = i.origin; number = g.number })) m ≡ last_in (cert_by p i (Positive g) (Some (Writes t)) ++ cs)
-      go true e = last_with c.last (record { inc = i.origin; number = g.number }) m ∙ rw e refl
-      go false e = last_with c.last (record { inc = i.origin; number = g.number }) m ∙ rw e h.0
-  number_here p i (Positive g) (Some b) c cs h = h
-  number_here p i (Positive g) None c cs h = h
-  number_here p i e b c cs h = h
+      go : P → (b : Bool) → inc_eq i.origin m ≡ b → last_of (with_last c.last (record { inc = i.origin; number = g.number })) m ≡ last_in (cert_by p i (Positive g) (Some (Writes t)) ++ cs)
+      go q true e = last_with c.last (record { inc = i.origin; number = g.number }) m ∙ rw e refl
+      go q false e = last_with c.last (record { inc = i.origin; number = g.number }) m ∙ rw e (h.0 q)
+  number_here p i (Positive g) (Some b) c cs P h = h
+  number_here p i (Positive g) None c cs P h = h
+  number_here p i e b c cs P h = h
 
-  pub same_numbers : (l : Life) → IsTaking s base l → SameNumbers (certifier s l) (certs l)
+  abbrev list_of : Life → List law.Value
+  list_of l = lives.taken (life_of base l)
+
+  abbrev Here : Life → Type 0
+  Here l = IsHere s (list_of l) m
+
+  was_here : (l : Life) (e : Entry) → Here (Took e ∷ l) → Here l
+  was_here l e h g = h (gone_more m e.value.id.origin (does_entry e.value.what e.effect e.holds) (seen.standing s (list_of l) m) g)
+
+  moved : (c : Certifier) (cs : List Cert) (p q : List law.Value) → p ≡ q → SameNumbers (IsHere s q m) c cs → SameNumbers (IsHere s p m) c cs
+  moved c cs p q e h = subst (λ (y : List law.Value). SameNumbers (IsHere s y m) c cs) (sym e) h
+
+  pub same_numbers : (l : Life) → IsTaking s base l → SameNumbers (Here l) (certifier s l) (certs l)
   same_numbers [] h = absurd h
-  same_numbers (Founds ∷ l) h = subst (λ (y : Life). SameNumbers (certifier s y) (certs y)) (sym h) (refl, refl)
+  same_numbers (Founds ∷ l) h = subst (λ (y : Life). SameNumbers (Here (Founds ∷ l)) (certifier s y) (certs y)) (sym h) ((λ k. refl), refl)
   same_numbers (Took e ∷ l) h =
-      let k = number_here e.place e.value.id e.effect e.holds (certifier s l) (certs l) (same_numbers l h.1) in
+      let r = same_numbers l h.1 in
+      let k = number_here e.place e.value.id e.effect e.holds (certifier s l) (certs l) (Here (Took e ∷ l)) ((λ z. r.0 (was_here l e z)), r.1) in
       let c = with_entry s.limits e (certifier s l) in
       let f = forgets s (Took e ∷ l) c c.items in
-      (ap (λ xs. last_of xs m) f.0 ∙ k.0, f.1 ∙ k.1)
-  same_numbers (Restores g cs ∷ l) h = (h.last m , h.blocks)
+      ((λ z. ap (λ xs. last_of xs m) f.0 ∙ k.0 z), f.1 ∙ k.1)
+  same_numbers (Restores g cs ∷ l) h = (h.last m, h.blocks)
   same_numbers (Enters w ∷ l) h = absurd h
   same_numbers (Starts x ∷ l) h = absurd h
+  same_numbers (Answered n a ∷ l) h = moved (certifier s l) (certs l) (list_of (Answered n a ∷ l)) (list_of l) (ap law.values (skip_answer base n a l (life_of base l))) (same_numbers l h)
+  same_numbers (Is x c ∷ l) h = moved (certifier s l) (certs l) (list_of (Is x c ∷ l)) (list_of l) (ap law.values (skip_state base x c l (life_of base l))) (same_numbers l h)
+  same_numbers (Made v b ∷ l) h = moved (certifier s l) (certs l) (list_of (Made v b ∷ l)) (list_of l) (ap law.values (skip_made v b l (life_of base l))) (same_numbers l h)
   same_numbers (d ∷ l) h = same_numbers l h
 
-  pub numbers_agree : (l : Life) → IsTaking s base l
+  pub numbers_agree : (l : Life) → IsTaking s base l → Here l
       → (next_gtid s.limits (certifier s l) m).number ≡ decided.next_number s (law.certified s (lives.marked (life_of base l))) m
-  numbers_agree l h =
+  numbers_agree l h z =
       let k = same_numbers l h in
-      (λ j. number_after s.limits.block (k.1 j) (k.0 j)) ∙ ap (λ cs. decided.next_number s cs m) (sym (certs_agree s base l h))
+      (λ j. number_after s.limits.block (k.1 j) (k.0 z j)) ∙ ap (λ cs. decided.next_number s cs m) (sym (certs_agree s base l h))
 
 -- ---- told sets
 
@@ -161,17 +197,71 @@ told_here e (Some t) ts m = told_with ts (record { inc = e.value.id.origin; set 
     go true = refl
     go false = refl
 
-pub told_agrees : (s : Setup) (base : List law.Placed) (l : Life) (m : Inc) → IsTaking s base l → told_of (told l) m ≡ seen.told (lives.taken (life_of base l)) m
-told_agrees s base [] m h = absurd h
-told_agrees s base (Founds ∷ l) m h = subst (λ (y : Life). told_of (told y) m ≡ seen.told (lives.taken (life_of base y)) m) (sym h) refl
-told_agrees s base (Took e ∷ l) m h =
-    let o = e.value.id.origin in
-    told_here e (tells e.holds) (told l) m
-    ∙ (λ k. seen.first_some (cond (inc_eq o m) (sym (set_here s (view s l) e.value.what e.holds e.effect h.0.1) k) None) (told_agrees s base l m h.1 k))
-told_agrees s base (Restores g cs ∷ l) m h = h.told m
-told_agrees s base (Enters w ∷ l) m h = absurd h
-told_agrees s base (Starts x ∷ l) m h = absurd h
-told_agrees s base (Answered k a ∷ l) m h = told_agrees s base l m h ∙ sym (ap (λ (y : List law.Placed). seen.told (law.values y) m) (skip_answer base k a l (life_of base l)))
-told_agrees s base (Is x c ∷ l) m h = told_agrees s base l m h ∙ sym (ap (λ (y : List law.Placed). seen.told (law.values y) m) (skip_state base x c l (life_of base l)))
-told_agrees s base (Made v b ∷ l) m h = told_agrees s base l m h ∙ sym (ap (λ (y : List law.Placed). seen.told (law.values y) m) (skip_made v b l (life_of base l)))
-told_agrees s base (d ∷ l) m h = told_agrees s base l m h
+-- Of one that is ONLINE after an entry more: it was ONLINE before, or tells its set now.
+told_more_here : (o m : Inc) (b : law.Body) (st : seen.Standing) (x y : Option Gtids) → seen.is_active (seen.stands_after m o b st) ≡ true → (seen.is_active st ≡ true → x ≡ y)
+    → seen.first_some (cond (inc_eq o m) (seen.set_told b) None) x ≡ seen.first_some (cond (inc_eq o m) (seen.set_told b) None) y
+told_more_here o m b st x y a f = by_body b a
+  where
+    silent : (t : Bool) → x ≡ y → seen.first_some {A = Gtids} (cond t None None) x ≡ seen.first_some {A = Gtids} (cond t None None) y
+    silent true e = e
+    silent false e = e
+
+    joined : (t : Bool) (z : seen.Standing) → seen.is_active (cond t (seen.on_join z) z) ≡ true → seen.is_active z ≡ true
+    joined false z h = h
+    joined true seen.Absent h = h
+    joined true seen.Recovering h = h
+    joined true seen.Active h = h
+    joined true seen.Gone h = h
+
+    left : (t : Bool) (z : seen.Standing) → seen.is_active (cond t (seen.on_leave z) z) ≡ true → seen.is_active z ≡ true
+    left false z h = h
+    left true seen.Absent h = h
+    left true seen.Recovering h = absurd (false≢true h)
+    left true seen.Active h = refl
+    left true seen.Gone h = h
+
+    telling : (t : Bool) (z : seen.Standing) (q : Gtids) → seen.is_active (cond t z st) ≡ true → seen.first_some (cond t (Some q) None) x ≡ seen.first_some (cond t (Some q) None) y
+    telling true z q h = refl
+    telling false z q h = f h
+
+    by_body : (b : law.Body) → seen.is_active (seen.stands_after m o b st) ≡ true → seen.first_some (cond (inc_eq o m) (seen.set_told b) None) x ≡ seen.first_some (cond (inc_eq o m) (seen.set_told b) None) y
+    by_body (law.Online t) h = telling (inc_eq o m) (seen.on_online st) t h
+    by_body (law.Executed t) h = told_now (inc_eq o m)
+      where
+        told_now : (t2 : Bool) → seen.first_some (cond t2 (Some t) None) x ≡ seen.first_some (cond t2 (Some t) None) y
+        told_now true = refl
+        told_now false = f h
+    by_body (law.Joins j) h = silent (inc_eq o m) (f (joined (inc_eq j.inc m) st h))
+    by_body (law.Leaves j) h = silent (inc_eq o m) (f (left (inc_eq j m) st h))
+    by_body (law.Write t) h = silent (inc_eq o m) (f h)
+    by_body (law.Prepared t) h = silent (inc_eq o m) (f h)
+    by_body (law.Switches t) h = silent (inc_eq o m) (f h)
+    by_body (law.Appoints t) h = silent (inc_eq o m) (f h)
+    by_body law.Plain h = silent (inc_eq o m) (f h)
+
+module _ (s : Setup) (base : List law.Placed) (m : Inc) where
+  -- of one that is ONLINE after this list
+  abbrev SameTold : List law.Value → List ToldSet → Type 0
+  SameTold p ts = seen.active s p m ≡ true → told_of ts m ≡ seen.told p m
+
+  abbrev told_list : Life → List law.Value
+  told_list l = lives.taken (life_of base l)
+
+  carried : (ts : List ToldSet) (p q : List law.Value) → p ≡ q → SameTold q ts → SameTold p ts
+  carried ts p q e h = subst (λ (y : List law.Value). SameTold y ts) (sym e) h
+
+  pub told_agrees : (l : Life) → IsTaking s base l → SameTold (told_list l) (told l)
+  told_agrees [] h = absurd h
+  told_agrees (Founds ∷ l) h = subst (λ (y : Life). SameTold (told_list y) (told y)) (sym h) (λ a. refl)
+  told_agrees (Took e ∷ l) h = λ a.
+      let o = e.value.id.origin in
+      told_here e (tells e.holds) (told l) m
+      ∙ (λ k. seen.first_some (cond (inc_eq o m) (sym (set_here s (view s l) e.value.what e.holds e.effect h.0.1) k) None) (told_of (told l) m))
+      ∙ told_more_here o m (does_entry e.value.what e.effect e.holds) (seen.standing s (told_list l) m) (told_of (told l) m) (seen.told (told_list l) m) a (told_agrees l h.1)
+  told_agrees (Restores g cs ∷ l) h = h.told m
+  told_agrees (Enters w ∷ l) h = absurd h
+  told_agrees (Starts x ∷ l) h = absurd h
+  told_agrees (Answered k a ∷ l) h = carried (told l) (told_list (Answered k a ∷ l)) (told_list l) (ap law.values (skip_answer base k a l (life_of base l))) (told_agrees l h)
+  told_agrees (Is x c ∷ l) h = carried (told l) (told_list (Is x c ∷ l)) (told_list l) (ap law.values (skip_state base x c l (life_of base l))) (told_agrees l h)
+  told_agrees (Made v b ∷ l) h = carried (told l) (told_list (Made v b ∷ l)) (told_list l) (ap law.values (skip_made v b l (life_of base l))) (told_agrees l h)
+  told_agrees (d ∷ l) h = told_agrees l h

@@ -61,9 +61,13 @@ module _ (ts : List ToldSet) (sound : (m : Inc) → IsToldSet (told_of ts m)) wh
       all_meet (set_or_empty (told_of ts i)) (stable_of ts (j ∷ is)) g (canonical_some (told_of ts i) (sound i)) (canonical_of (j ∷ is))
       ∙ (λ k. has_some (told_of ts i) g k && has_common g (j ∷ is) k)
 
-same_common : (f h : Inc → Option Gtids) (g : Gtid) (is : List Inc) → ((m : Inc) → f m ≡ h m) → common f g is ≡ common h g is
+same_all : (f h : Inc → Option Gtids) (g : Gtid) (is : List Inc) → ((m : Inc) → Mem m is → f m ≡ h m) → list_all (λ m. seen.has_in (f m) g) is ≡ list_all (λ m. seen.has_in (h m) g) is
+same_all f h g [] e = refl
+same_all f h g (i ∷ is) e = λ k. seen.has_in (e i (inl refl) k) g && same_all f h g is (λ m x. e m (inr x)) k
+
+same_common : (f h : Inc → Option Gtids) (g : Gtid) (is : List Inc) → ((m : Inc) → Mem m is → f m ≡ h m) → common f g is ≡ common h g is
 same_common f h g [] e = refl
-same_common f h g (i ∷ is) e = λ k. list_all (λ m. seen.has_in (e m k) g) (i ∷ is)
+same_common f h g (i ∷ is) e = same_all f h g (i ∷ is) e
 
 -- ---- those who are ONLINE
 
@@ -122,7 +126,7 @@ stable_agrees s base l g h k a =
     let p = lives.taken (life_of base l) in
     let os = online_incs (view s l) in
     has_common (told l) (λ m. sound_sets s base l m h k) g os
-    ∙ same_common (told_of (told l)) (seen.told p) g os (λ m. told_agrees s base l m h)
+    ∙ same_common (told_of (told l)) (seen.told p) g os (λ m i. told_agrees s base m l h (sym (online m) ∙ is_up (view s l).seats m i))
     ∙ over_online s p g os (λ m. (λ i. sym (online m) ∙ is_up (view s l).seats m i, λ e. is_there (view s l).seats m (online m ∙ e)))
   where
     online : (m : Inc) → up (view s l).seats m ≡ seen.active s (lives.taken (life_of base l)) m

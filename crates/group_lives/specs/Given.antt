@@ -32,11 +32,11 @@ Writer = ℕ × Gtid
 -- the last writer that is kept of an item
 abbrev pub writer_of : List KeptItem → Item → Option Writer
 writer_of [] i = None
-writer_of (k ∷ ks) i = cond (item_eq k.item i) (Some (k.place , k.gtid)) (writer_of ks i)
+writer_of (k ∷ ks) i = cond (item_eq k.item i) (Some (k.place, k.gtid)) (writer_of ks i)
 
 abbrev pub pair_of : Option law.Cert → Option Writer
 pair_of None = None
-pair_of (Some c) = Some (c.place , c.gtid)
+pair_of (Some c) = Some (c.place, c.gtid)
 
 -- the items kept have the writers that the list keeps
 abbrev pub SameWriters : Setup → List KeptItem → List law.Placed → Type 0
@@ -52,14 +52,18 @@ Sorted (k ∷ ks) = AllAbove k.item ks × Sorted ks
 
 -- ---- a Give
 
+-- The group hasn't removed it. (Of those that it removed, a Give tells nothing: they make no more values.)
+abbrev pub IsHere : Setup → List law.Value → Inc → Type 0
+IsHere s p m = seen.standing s p m ≡ seen.Gone → ⊥
+
 -- with the view told and the place of the Add
 pub record GivenAs (s : Setup) (base : List law.Placed) (g : Give) (cs : List Cert) (v : View) (n : ℕ) : Type 0 where
   pub places : length base ≡ n
   pub view : primary.view s (law.values base) ≡ v
   pub certified : law.certified s base ≡ map law_cert (reverse cs)
-  pub told : (m : Inc) → told_of g.told m ≡ seen.told (law.values base) m
+  pub told : (m : Inc) → seen.active s (law.values base) m ≡ true → told_of g.told m ≡ seen.told (law.values base) m
   pub sound : (m : Inc) → IsToldSet (told_of g.told m)
-  pub last : (m : Inc) → last_of g.last m ≡ decided.number_in (decided.last_of m (map law_cert (reverse cs)))
+  pub last : (m : Inc) → IsHere s (law.values base) m → last_of g.last m ≡ decided.number_in (decided.last_of m (map law_cert (reverse cs)))
   pub blocks : g.blocks ≡ decided.blocks_taken s.limits.block (map law_cert (reverse cs))
   pub sorted : Sorted g.items
   pub writers : SameWriters s g.items base

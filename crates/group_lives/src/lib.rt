@@ -4,7 +4,7 @@
 //! happened in the world to a run of the laws.
 #![tactic(auto)]
 
-ghost use Rattle.std.specs.Prelude.{◌≡◌, List, length, map};
+ghost use Rattle.std.specs.Prelude.{◌≡◌, true, List, length, map};
 ghost use Rattle.gr_ids.specs.declared.names.Inc.{Inc};
 ghost use Rattle.gr_ids.specs.declared.names.Gtid.{Gtid};
 ghost use Rattle.gtid_sets.specs.Sets.{has};
@@ -23,6 +23,7 @@ ghost use Rattle.group_laws.specs.Verdict as decided;
 ghost use Rattle.group_laws.specs.Life as lives;
 ghost use Rattle.group_laws.specs.World as run;
 ghost use Rattle.group_lives.specs.Lives.{law_cert, outcome_of, life_of, run_of};
+ghost use Rattle.group_lives.specs.Given.{IsHere};
 ghost use Rattle.group_lives.specs.Sound.{HasSets, IsTaking, HasToldSets, AddsNew};
 
 /// A life has executed what its history has.
@@ -44,15 +45,15 @@ pub fn seats_are_members()
     ensures online { (s : Setup) (p : List law.Value) (m : Inc) → AddsNew s p → is_online (primary.view s p) m ≡ seen.active s p m }
 {}
 
-/// And its told sets, its stable set, its next numbers and its verdicts.
+/// And the told sets of those ONLINE, its stable set, and the next numbers and verdicts of those who aren't removed.
 pub fn certifiers_agree()
-    ensures told { (s : Setup) (base : List law.Placed) (l : Life) (m : Inc) → IsTaking s base l
+    ensures told { (s : Setup) (base : List law.Placed) (l : Life) (m : Inc) → IsTaking s base l → seen.active s (lives.taken (life_of base l)) m ≡ true
         → told_of (told l) m ≡ seen.told (lives.taken (life_of base l)) m }
     ensures stable { (s : Setup) (base : List law.Placed) (l : Life) (g : Gtid) → IsTaking s base l → HasToldSets l → AddsNew s (lives.taken (life_of base l))
         → has (stable s l) g ≡ seen.stable s (lives.taken (life_of base l)) g }
-    ensures numbers { (s : Setup) (base : List law.Placed) (l : Life) (m : Inc) → IsTaking s base l
+    ensures numbers { (s : Setup) (base : List law.Placed) (l : Life) (m : Inc) → IsTaking s base l → IsHere s (lives.taken (life_of base l)) m
         → (next_gtid s.limits (certifier s l) m).number ≡ decided.next_number s (law.certified s (lives.marked (life_of base l))) m }
-    ensures verdicts { (s : Setup) (base : List law.Placed) (l : Life) (o : Inc) (t : Txn) → IsTaking s base l → HasToldSets l → AddsNew s (lives.taken (life_of base l))
+    ensures verdicts { (s : Setup) (base : List law.Placed) (l : Life) (o : Inc) (t : Txn) → IsTaking s base l → HasToldSets l → AddsNew s (lives.taken (life_of base l)) → IsHere s (lives.taken (life_of base l)) o
         → outcome_of (verdict s.limits (certifier s l) o t) ≡ decided.kept_parts s (lives.marked (life_of base l)) o (law.Write t) }
 {}
 
