@@ -1,5 +1,5 @@
 -- The numbers that a certifier gives, and the sets that members told it, are those of its life.
-use Rattle.std.proofs.Common.{◌≡◌, ℕ, suc, Bool, true, false, cond, List, [], ◌∷◌, ◌++◌, map, refl, ◌∙◌, sym, ap, subst}
+use Rattle.std.proofs.Common.{◌≡◌, ℕ, suc, Bool, true, false, cond, List, [], ◌∷◌, ◌++◌, map, length, refl, ◌∙◌, sym, ap, subst}
 use Rattle.std.specs.Prelude.{Option, Some, None}
 use Rattle.std.proofs.lemmas.Bool.{false≢true}
 use Rattle.gr_ids.specs.declared.names.Inc.{Inc}
@@ -12,7 +12,7 @@ use Rattle.txn_forms.specs.declared.body.Body.{Body}
 use Rattle.txn_forms.specs.declared.body.Body.TheVariants.{Txn as Writes, Executed, Online as Arrives}
 use Rattle.group_rules.specs.Names.{LastNumber, ToldSet, KeptItem}
 use Rattle.group_rules.specs.declared.marks.Effect.{Effect}
-use Rattle.group_rules.specs.declared.marks.Effect.TheVariants.{Plain, Positive}
+use Rattle.group_rules.specs.declared.marks.Effect.TheVariants.{Plain, Void, Unread, Positive, Conflict}
 use Rattle.group_rules.specs.Events.{Founds, Starts, Made, Took, Is, Answered, Restores, Enters, Life, Cert, Setup, Entry}
 use Rattle.group_rules.specs.Life.{certs, cert_by, view}
 use Rattle.group_rules.specs.View.{View}
@@ -24,9 +24,9 @@ use Rattle.group_laws.specs.Verdict as decided
 use Rattle.group_laws.specs.Life as lives
 use Rattle.group_laws.proofs.Names.{inc_eq_same}
 use Rattle.group_lives.specs.Given.{IsHere}
-use Rattle.group_lives.specs.Lives.{does_entry, law_cert, life_of}
+use Rattle.group_lives.specs.Lives.{does_entry, outcome_of, life_of}
 use Rattle.group_lives.specs.Sound.{IsEffect, IsTaking}
-use Rattle.group_lives.proofs.Taking.{certs_agree, skip_answer, skip_state, skip_made}
+use Rattle.group_lives.proofs.Taking.{skip_answer, skip_state, skip_made}
 
 -- two names that differ are not both the same as a third
 apart : (a b m : Inc) → inc_eq a b ≡ false → inc_eq b m ≡ true → inc_eq a m ≡ false
@@ -85,25 +85,43 @@ forgets s l c (k ∷ ks) = (refl, refl)
 
 module _ (s : Setup) (m : Inc) (base : List law.Placed) where
   -- the last number of `m` in the list, and how many blocks are taken
-  abbrev pub last_in : List Cert → Option ℕ
-  last_in cs = decided.number_in (decided.last_of m (map law_cert cs))
+  abbrev pub last_in : List law.Cert → Option ℕ
+  last_in cs = decided.number_in (decided.last_of m cs)
 
-  abbrev pub taken_in : List Cert → ℕ
-  taken_in cs = decided.blocks_taken s.limits.block (map law_cert cs)
+  abbrev pub taken_in : List law.Cert → ℕ
+  taken_in cs = decided.blocks_taken s.limits.block cs
 
-  abbrev pub SameNumbers : Type 0 → Certifier → List Cert → Type 0
+  abbrev pub SameNumbers : Type 0 → Certifier → List law.Cert → Type 0
   SameNumbers P c cs = (P → last_of c.last m ≡ last_in cs) × (c.blocks ≡ taken_in cs)
 
-  number_here : (p : ℕ) (i : ValueId) (e : Effect) (b : Option Body) (c : Certifier) (cs : List Cert) (P : Type 0) → SameNumbers P c cs
-      → SameNumbers P (certified_by s.limits p i.origin e b c) (cert_by p i e b ++ cs)
-  number_here p i (Positive g) (Some (Writes t)) c cs P h = ((λ q. go q (inc_eq i.origin m) refl), ap (λ (n : ℕ). cond (opens_block s.limits.block g.number) (suc n) n) h.1)
+  number_here : (v : View) (p n : ℕ) (i : ValueId) (w : What) (b : Option Body) (e : Effect) (c : Certifier) (cs : List law.Cert) (P : Type 0) → IsEffect s v w b e → SameNumbers P c cs
+      → SameNumbers P (certified_by s.limits p i.origin e b c) (law.cons_some (law.cert_parts s n i.origin i.number (does_entry w e b) (outcome_of e)) cs)
+  number_here v p n i (Says y) (Some (Writes t)) (Positive g) c cs P f h = ((λ q. go q (inc_eq i.origin m) refl) , ap (λ (n : ℕ). cond (opens_block s.limits.block g.number) (suc n) n) h.1)
     where
-      go : P → (b : Bool) → inc_eq i.origin m ≡ b → last_of (with_last c.last (record { inc = i.origin; number = g.number })) m ≡ last_in (cert_by p i (Positive g) (Some (Writes t)) ++ cs)
+      go : P → (b : Bool) → inc_eq i.origin m ≡ b → last_of (with_last c.last (record { inc = i.origin; number = g.number })) m
+          ≡ last_in (law.cons_some (law.cert_parts s n i.origin i.number (law.Write t) (law.Positive g.number)) cs)
       go q true e = last_with c.last (record { inc = i.origin; number = g.number }) m ∙ rw e refl
       go q false e = last_with c.last (record { inc = i.origin; number = g.number }) m ∙ rw e (h.0 q)
-  number_here p i (Positive g) (Some b) c cs P h = h
-  number_here p i (Positive g) None c cs P h = h
-  number_here p i e b c cs P h = h
+  number_here v p n i (Says y) (Some (Writes t)) (Conflict g) c cs P f h = h
+  number_here v p n i (Says y) (Some (Writes t)) Plain c cs P f h = absurd f
+  number_here v p n i (Says y) (Some (Writes t)) Void c cs P f h = absurd f
+  number_here v p n i (Says y) (Some (Writes t)) Unread c cs P f h = absurd f
+  number_here v p n i (Says y) None Plain c cs P f h = h
+  number_here v p n i (Says y) None (Positive g) c cs P f h = h
+  number_here v p n i (Says y) None e c cs P f h = h
+  number_here v p n i (Says y) (Some b) (Positive g) c cs P f h = h
+  number_here v p n i (Says y) (Some b) e c cs P f h = h
+  number_here v p n i Noop (Some b) e c cs P f h = absurd f
+  number_here v p n i (Add j) (Some b) e c cs P f h = absurd f
+  number_here v p n i (Remove j) (Some b) e c cs P f h = absurd f
+  number_here v p n i Noop None (Positive g) c cs P f h = h
+  number_here v p n i Noop None e c cs P f h = h
+  number_here v p n i (Add j) None Plain c cs P f h = h
+  number_here v p n i (Add j) None (Positive g) c cs P f h = h
+  number_here v p n i (Add j) None e c cs P f h = h
+  number_here v p n i (Remove j) None Plain c cs P f h = h
+  number_here v p n i (Remove j) None (Positive g) c cs P f h = h
+  number_here v p n i (Remove j) None e c cs P f h = h
 
   abbrev list_of : Life → List law.Value
   list_of l = lives.taken (life_of base l)
@@ -114,31 +132,32 @@ module _ (s : Setup) (m : Inc) (base : List law.Placed) where
   was_here : (l : Life) (e : Entry) → Here (Took e ∷ l) → Here l
   was_here l e h g = h (gone_more m e.value.id.origin (does_entry e.value.what e.effect e.holds) (seen.standing s (list_of l) m) g)
 
-  moved : (c : Certifier) (cs : List Cert) (p q : List law.Value) → p ≡ q → SameNumbers (IsHere s q m) c cs → SameNumbers (IsHere s p m) c cs
-  moved c cs p q e h = subst (λ (y : List law.Value). SameNumbers (IsHere s y m) c cs) (sym e) h
+  abbrev Numbers : Certifier → List law.Placed → Type 0
+  Numbers c ps = SameNumbers (IsHere s (law.values ps) m) c (law.certified s ps)
 
-  pub same_numbers : (l : Life) → IsTaking s base l → SameNumbers (Here l) (certifier s l) (certs l)
+  moved : (c : Certifier) (p q : List law.Placed) → p ≡ q → Numbers c q → Numbers c p
+  moved c p q e h = subst (Numbers c) (sym e) h
+
+  pub same_numbers : (l : Life) → IsTaking s base l → Numbers (certifier s l) (lives.marked (life_of base l))
   same_numbers [] h = absurd h
-  same_numbers (Founds ∷ l) h = subst (λ (y : Life). SameNumbers (Here (Founds ∷ l)) (certifier s y) (certs y)) (sym h) ((λ k. refl), refl)
+  same_numbers (Founds ∷ l) h = subst (λ (y : Life). Numbers (certifier s y) (lives.marked (life_of base y))) (sym h) ((λ k. refl) , refl)
   same_numbers (Took e ∷ l) h =
       let r = same_numbers l h.1 in
-      let k = number_here e.place e.value.id e.effect e.holds (certifier s l) (certs l) (Here (Took e ∷ l)) ((λ z. r.0 (was_here l e z)), r.1) in
+      let k = number_here (view s l) e.place (suc (length (lives.marked (life_of base l)))) e.value.id e.value.what e.holds e.effect (certifier s l) (law.certified s (lives.marked (life_of base l))) (Here (Took e ∷ l)) h.0.1 ((λ z. r.0 (was_here l e z)) , r.1) in
       let c = with_entry s.limits e (certifier s l) in
       let f = forgets s (Took e ∷ l) c c.items in
-      ((λ z. ap (λ xs. last_of xs m) f.0 ∙ k.0 z), f.1 ∙ k.1)
-  same_numbers (Restores g cs ∷ l) h = (h.last m, h.blocks)
+      ((λ z. ap (λ xs. last_of xs m) f.0 ∙ k.0 z) , f.1 ∙ k.1)
+  same_numbers (Restores g cs ∷ l) h = (h.last m , h.blocks)
   same_numbers (Enters w ∷ l) h = absurd h
   same_numbers (Starts x ∷ l) h = absurd h
-  same_numbers (Answered n a ∷ l) h = moved (certifier s l) (certs l) (list_of (Answered n a ∷ l)) (list_of l) (ap law.values (skip_answer base n a l (life_of base l))) (same_numbers l h)
-  same_numbers (Is x c ∷ l) h = moved (certifier s l) (certs l) (list_of (Is x c ∷ l)) (list_of l) (ap law.values (skip_state base x c l (life_of base l))) (same_numbers l h)
-  same_numbers (Made v b ∷ l) h = moved (certifier s l) (certs l) (list_of (Made v b ∷ l)) (list_of l) (ap law.values (skip_made v b l (life_of base l))) (same_numbers l h)
+  same_numbers (Answered n a ∷ l) h = moved (certifier s l) (lives.marked (life_of base (Answered n a ∷ l))) (lives.marked (life_of base l)) (skip_answer base n a l (life_of base l)) (same_numbers l h)
+  same_numbers (Is x c ∷ l) h = moved (certifier s l) (lives.marked (life_of base (Is x c ∷ l))) (lives.marked (life_of base l)) (skip_state base x c l (life_of base l)) (same_numbers l h)
+  same_numbers (Made v b ∷ l) h = moved (certifier s l) (lives.marked (life_of base (Made v b ∷ l))) (lives.marked (life_of base l)) (skip_made v b l (life_of base l)) (same_numbers l h)
   same_numbers (d ∷ l) h = same_numbers l h
 
   pub numbers_agree : (l : Life) → IsTaking s base l → Here l
       → (next_gtid s.limits (certifier s l) m).number ≡ decided.next_number s (law.certified s (lives.marked (life_of base l))) m
-  numbers_agree l h z =
-      let k = same_numbers l h in
-      (λ j. number_after s.limits.block (k.1 j) (k.0 z j)) ∙ ap (λ cs. decided.next_number s cs m) (sym (certs_agree s base l h))
+  numbers_agree l h z = let k = same_numbers l h in λ j. number_after s.limits.block (k.1 j) (k.0 z j)
 
 -- ---- told sets
 

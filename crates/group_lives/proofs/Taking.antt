@@ -1,6 +1,7 @@
 -- A history that takes a list and its life have the same places, certified transactions, and views.
 use Rattle.std.proofs.Common.{◌≡◌, ℕ, suc, Bool, true, false, List, [], ◌∷◌, ◌++◌, length, map, refl, ◌∙◌, sym, ap, subst}
 use Rattle.std.specs.Prelude.{Option, Some, None}
+use Rattle.std.proofs.lemmas.Bool.{false≢true}
 use Rattle.gr_ids.specs.declared.names.Inc.{Inc}
 use Rattle.gr_ids.specs.declared.names.ValueId.{ValueId}
 use Rattle.gr_ids.specs.declared.levels.MemberState.{MemberState}
@@ -17,7 +18,7 @@ use Rattle.group_rules.specs.declared.marks.Cause.{Cause}
 use Rattle.group_rules.specs.declared.marks.Effect.{Effect}
 use Rattle.group_rules.specs.declared.marks.Effect.TheVariants.{Plain, Void, Unread, Positive, Conflict}
 use Rattle.group_rules.specs.Events.{Founds, Starts, Made, Took, Is, Answered, Restores, Enters, Life, Cert, Setup}
-use Rattle.group_rules.specs.Life.{taken, view, certs, cert_by}
+use Rattle.group_rules.specs.Life.{taken, view, certs, cert_by, has_give}
 use Rattle.group_rules.specs.View.{View, next_view, void_if, is_idle}
 use Rattle.group_laws.specs.Entries as law
 use Rattle.group_laws.specs.Primary as primary
@@ -74,23 +75,23 @@ one_cert s v p i (Add j) None e cs h = refl
 one_cert s v p i (Remove j) None Plain cs h = refl
 one_cert s v p i (Remove j) None e cs h = refl
 
-pub certs_agree : (s : Setup) (base : List law.Placed) (l : Life) → IsTaking s base l → law.certified s (lives.marked (life_of base l)) ≡ map law_cert (certs l)
-certs_agree s base [] h = absurd h
-certs_agree s base (Founds ∷ l) h = subst (λ (y : Life). law.certified s (lives.marked (life_of base y)) ≡ map law_cert (certs y)) (sym h) refl
-certs_agree s base (Took e ∷ l) h = go (certs_agree s base l h.1) (ap suc (places_agree s base l h.1) ∙ sym h.0.0)
+pub certs_agree : (s : Setup) (base : List law.Placed) (l : Life) → IsTaking s base l → has_give l ≡ false → law.certified s (lives.marked (life_of base l)) ≡ map law_cert (certs l)
+certs_agree s base [] h f = absurd h
+certs_agree s base (Founds ∷ l) h f = subst (λ (y : Life). law.certified s (lives.marked (life_of base y)) ≡ map law_cert (certs y)) (sym h) refl
+certs_agree s base (Took e ∷ l) h f = go (certs_agree s base l h.1 f) (ap suc (places_agree s base l h.1) ∙ sym h.0.0)
   where
     go : law.certified s (lives.marked (life_of base l)) ≡ map law_cert (certs l) → suc (length (lives.marked (life_of base l))) ≡ e.place → law.certified s (lives.marked (life_of base (Took e ∷ l))) ≡ map law_cert (certs (Took e ∷ l))
     go q n =
         let x : law.certified s (lives.marked (life_of base (Took e ∷ l))) ≡ law.cons_some (law.cert_parts s e.place e.value.id.origin e.value.id.number (does_entry e.value.what e.effect e.holds) (outcome_of e.effect)) (map law_cert (certs l)) =
         λ k. law.cons_some (law.cert_parts s (n k) e.value.id.origin e.value.id.number (does_entry e.value.what e.effect e.holds) (outcome_of e.effect)) (q k) in
         x ∙ one_cert s (view s l) e.place e.value.id e.value.what e.holds e.effect (certs l) h.0.1
-certs_agree s base (Restores g cs ∷ l) h = h.certified
-certs_agree s base (Enters w ∷ l) h = absurd h
-certs_agree s base (Starts x ∷ l) h = absurd h
-certs_agree s base (Answered k a ∷ l) h = ap (law.certified s) (skip_answer base k a l (life_of base l)) ∙ certs_agree s base l h
-certs_agree s base (Is x c ∷ l) h = ap (law.certified s) (skip_state base x c l (life_of base l)) ∙ certs_agree s base l h
-certs_agree s base (Made v b ∷ l) h = ap (law.certified s) (skip_made v b l (life_of base l)) ∙ certs_agree s base l h
-certs_agree s base (d ∷ l) h = certs_agree s base l h
+certs_agree s base (Restores g cs ∷ l) h f = absurd (false≢true (sym f))
+certs_agree s base (Enters w ∷ l) h f = absurd h
+certs_agree s base (Starts x ∷ l) h f = absurd h
+certs_agree s base (Answered k a ∷ l) h f = ap (law.certified s) (skip_answer base k a l (life_of base l)) ∙ certs_agree s base l h f
+certs_agree s base (Is x c ∷ l) h f = ap (law.certified s) (skip_state base x c l (life_of base l)) ∙ certs_agree s base l h f
+certs_agree s base (Made v b ∷ l) h f = ap (law.certified s) (skip_made v b l (life_of base l)) ∙ certs_agree s base l h f
+certs_agree s base (d ∷ l) h f = certs_agree s base l h f
 
 -- ---- views
 

@@ -1,5 +1,5 @@
 -- What a Give and a Welcome tell a joiner, against the list up to its Add.
-use Rattle.std.specs.Prelude.{◌≡◌, ℕ, Bool, true, cond, Option, Some, None, List, [], ◌∷◌, length, map, reverse}
+use Rattle.std.specs.Prelude.{◌≡◌, ℕ, Bool, true, cond, Option, Some, None, List, [], ◌∷◌, length}
 use Rattle.gr_ids.specs.declared.names.Inc.{Inc}
 use Rattle.gr_ids.specs.declared.names.Gtid.{Gtid}
 use Rattle.gtid_sets.specs.Sets.{Gtids}
@@ -7,7 +7,7 @@ use Rattle.gtid_sets.specs.Canonical.{IsCanonical}
 use Rattle.key_items.specs.declared.item.Item.{Item}
 use Rattle.key_items.specs.Items.{item_eq, item_lt}
 use Rattle.group_rules.specs.Names.{KeptItem, Give}
-use Rattle.group_rules.specs.Events.{Cert, Setup}
+use Rattle.group_rules.specs.Events.{Setup}
 use Rattle.group_rules.specs.View.{View}
 use Rattle.group_rules.specs.Told.{told_of}
 use Rattle.group_rules.specs.Certifier.{last_of}
@@ -16,7 +16,6 @@ use Rattle.group_laws.specs.Entries as law
 use Rattle.group_laws.specs.View as seen
 use Rattle.group_laws.specs.Primary as primary
 use Rattle.group_laws.specs.Verdict as decided
-use Rattle.group_lives.specs.Lives.{law_cert}
 
 -- the last set that a member told is canonical
 abbrev pub IsToldSet : Option Gtids → Type 0
@@ -57,13 +56,12 @@ abbrev pub IsHere : Setup → List law.Value → Inc → Type 0
 IsHere s p m = seen.standing s p m ≡ seen.Gone → ⊥
 
 -- with the view told and the place of the Add
-pub record GivenAs (s : Setup) (base : List law.Placed) (g : Give) (cs : List Cert) (v : View) (n : ℕ) : Type 0 where
+pub record GivenAs (s : Setup) (base : List law.Placed) (g : Give) (v : View) (n : ℕ) : Type 0 where
   pub places : length base ≡ n
   pub view : primary.view s (law.values base) ≡ v
-  pub certified : law.certified s base ≡ map law_cert (reverse cs)
   pub told : (m : Inc) → seen.active s (law.values base) m ≡ true → told_of g.told m ≡ seen.told (law.values base) m
   pub sound : (m : Inc) → IsToldSet (told_of g.told m)
-  pub last : (m : Inc) → IsHere s (law.values base) m → last_of g.last m ≡ decided.number_in (decided.last_of m (map law_cert (reverse cs)))
-  pub blocks : g.blocks ≡ decided.blocks_taken s.limits.block (map law_cert (reverse cs))
+  pub last : (m : Inc) → IsHere s (law.values base) m → last_of g.last m ≡ decided.number_in (decided.last_of m (law.certified s base))
+  pub blocks : g.blocks ≡ decided.blocks_taken s.limits.block (law.certified s base)
   pub sorted : Sorted g.items
   pub writers : SameWriters s g.items base

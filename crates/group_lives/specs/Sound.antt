@@ -42,7 +42,7 @@ abbrev pub IsTaking : Setup → List law.Placed → Life → Type 0
 IsTaking s base [] = ⊥
 IsTaking s base (Founds ∷ l) = l ≡ []
 IsTaking s base (Took e ∷ l) = ((e.place ≡ suc (taken l)) × IsEffect s (view s l) e.value.what e.holds e.effect) × IsTaking s base l
-IsTaking s base (Restores g cs ∷ l) = GivenAs s base g cs (view s l) (taken l)
+IsTaking s base (Restores g cs ∷ l) = GivenAs s base g (view s l) (taken l)
 IsTaking s base (Enters w ∷ l) = ⊥
 IsTaking s base (Starts x ∷ l) = ⊥
 IsTaking s base (_ ∷ l) = IsTaking s base l

@@ -4,13 +4,13 @@
 //! happened in the world to a run of the laws.
 #![tactic(auto)]
 
-ghost use Rattle.std.specs.Prelude.{◌≡◌, true, List, length, map};
+ghost use Rattle.std.specs.Prelude.{◌≡◌, true, false, List, length, map};
 ghost use Rattle.gr_ids.specs.declared.names.Inc.{Inc};
 ghost use Rattle.gr_ids.specs.declared.names.Gtid.{Gtid};
 ghost use Rattle.gtid_sets.specs.Sets.{has};
 ghost use Rattle.txn_forms.specs.declared.body.Txn.{Txn};
 ghost use Rattle.group_rules.specs.Events.{Life, Setup};
-ghost use Rattle.group_rules.specs.Life.{executed, taken, view, certs};
+ghost use Rattle.group_rules.specs.Life.{executed, taken, view, certs, has_give};
 ghost use Rattle.group_rules.specs.View.{is_seated, is_online};
 ghost use Rattle.group_rules.specs.Told.{told, told_of, stable};
 ghost use Rattle.group_rules.specs.Certifier.{certifier, next_gtid, verdict};
@@ -31,10 +31,10 @@ pub fn executed_sets_agree()
     ensures { (base : List law.Placed) (l : Life) (g : Gtid) → HasSets l → lives.executed (life_of base l) g ≡ has (executed l) g }
 {}
 
-/// The life of a history that takes a list has its places, its certified transactions and its view.
+/// The life of a history that takes a list has its places and its view, and a founder's its certified transactions.
 pub fn lists_agree()
     ensures places { (s : Setup) (base : List law.Placed) (l : Life) → IsTaking s base l → length (lives.marked (life_of base l)) ≡ taken l }
-    ensures certified { (s : Setup) (base : List law.Placed) (l : Life) → IsTaking s base l
+    ensures certified { (s : Setup) (base : List law.Placed) (l : Life) → IsTaking s base l → has_give l ≡ false
         → law.certified s (lives.marked (life_of base l)) ≡ map law_cert (certs l) }
     ensures view { (s : Setup) (base : List law.Placed) (l : Life) → IsTaking s base l → primary.view s (lives.taken (life_of base l)) ≡ view s l }
 {}
