@@ -252,7 +252,7 @@ both_forget s r p (Some c) h = ap (λ (b : Bool). cond b None (Some (c.place, c.
 
 -- ---- a history
 
-sorted_items : (s : Setup) (base : List law.Placed) (l : Life) → IsTaking s base l → Sorted (certifier s l).items
+pub sorted_items : (s : Setup) (base : List law.Placed) (l : Life) → IsTaking s base l → Sorted (certifier s l).items
 sorted_items s base [] h = absurd h
 sorted_items s base (Founds ∷ l) h = subst (λ (y : Life). Sorted (certifier s y).items) (sym h) tt
 sorted_items s base (Took e ∷ l) h =

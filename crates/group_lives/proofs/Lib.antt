@@ -6,3 +6,4 @@ pub mod Standings
 pub mod Stable
 pub mod Kept
 pub mod Certified
+pub mod Giving

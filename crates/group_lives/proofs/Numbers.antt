@@ -96,7 +96,7 @@ module _ (s : Setup) (m : Inc) (base : List law.Placed) where
 
   number_here : (v : View) (p n : ℕ) (i : ValueId) (w : What) (b : Option Body) (e : Effect) (c : Certifier) (cs : List law.Cert) (P : Type 0) → IsEffect s v w b e → SameNumbers P c cs
       → SameNumbers P (certified_by s.limits p i.origin e b c) (law.cons_some (law.cert_parts s n i.origin i.number (does_entry w e b) (outcome_of e)) cs)
-  number_here v p n i (Says y) (Some (Writes t)) (Positive g) c cs P f h = ((λ q. go q (inc_eq i.origin m) refl) , ap (λ (n : ℕ). cond (opens_block s.limits.block g.number) (suc n) n) h.1)
+  number_here v p n i (Says y) (Some (Writes t)) (Positive g) c cs P f h = ((λ q. go q (inc_eq i.origin m) refl), ap (λ (n : ℕ). cond (opens_block s.limits.block g.number) (suc n) n) h.1)
     where
       go : P → (b : Bool) → inc_eq i.origin m ≡ b → last_of (with_last c.last (record { inc = i.origin; number = g.number })) m
           ≡ last_in (law.cons_some (law.cert_parts s n i.origin i.number (law.Write t) (law.Positive g.number)) cs)
@@ -140,14 +140,14 @@ module _ (s : Setup) (m : Inc) (base : List law.Placed) where
 
   pub same_numbers : (l : Life) → IsTaking s base l → Numbers (certifier s l) (lives.marked (life_of base l))
   same_numbers [] h = absurd h
-  same_numbers (Founds ∷ l) h = subst (λ (y : Life). Numbers (certifier s y) (lives.marked (life_of base y))) (sym h) ((λ k. refl) , refl)
+  same_numbers (Founds ∷ l) h = subst (λ (y : Life). Numbers (certifier s y) (lives.marked (life_of base y))) (sym h) ((λ k. refl), refl)
   same_numbers (Took e ∷ l) h =
       let r = same_numbers l h.1 in
-      let k = number_here (view s l) e.place (suc (length (lives.marked (life_of base l)))) e.value.id e.value.what e.holds e.effect (certifier s l) (law.certified s (lives.marked (life_of base l))) (Here (Took e ∷ l)) h.0.1 ((λ z. r.0 (was_here l e z)) , r.1) in
+      let k = number_here (view s l) e.place (suc (length (lives.marked (life_of base l)))) e.value.id e.value.what e.holds e.effect (certifier s l) (law.certified s (lives.marked (life_of base l))) (Here (Took e ∷ l)) h.0.1 ((λ z. r.0 (was_here l e z)), r.1) in
       let c = with_entry s.limits e (certifier s l) in
       let f = forgets s (Took e ∷ l) c c.items in
-      ((λ z. ap (λ xs. last_of xs m) f.0 ∙ k.0 z) , f.1 ∙ k.1)
-  same_numbers (Restores g cs ∷ l) h = (h.last m , h.blocks)
+      ((λ z. ap (λ xs. last_of xs m) f.0 ∙ k.0 z), f.1 ∙ k.1)
+  same_numbers (Restores g cs ∷ l) h = (h.last m, h.blocks)
   same_numbers (Enters w ∷ l) h = absurd h
   same_numbers (Starts x ∷ l) h = absurd h
   same_numbers (Answered n a ∷ l) h = moved (certifier s l) (lives.marked (life_of base (Answered n a ∷ l))) (lives.marked (life_of base l)) (skip_answer base n a l (life_of base l)) (same_numbers l h)

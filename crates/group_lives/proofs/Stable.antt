@@ -85,7 +85,7 @@ is_up (s ∷ ss) m h = go (is_online_state s.state) refl h (is_up ss m)
     go true e (inr q) k = ap (λ (z : Bool). (inc_eq s.joiner.inc m && is_online_state s.state) || z) (k q) ∙ right (inc_eq s.joiner.inc m && is_online_state s.state)
     go false e q k = ap (λ (z : Bool). (inc_eq s.joiner.inc m && is_online_state s.state) || z) (k q) ∙ right (inc_eq s.joiner.inc m && is_online_state s.state)
 
-is_there : (ss : List Seat) (m : Inc) → up ss m ≡ true → Mem m (seated (filter (λ s. is_online_state s.state) ss))
+pub is_there : (ss : List Seat) (m : Inc) → up ss m ≡ true → Mem m (seated (filter (λ s. is_online_state s.state) ss))
 is_there [] m h = absurd (false≢true h)
 is_there (s ∷ ss) m h = go (is_online_state s.state) (inc_eq s.joiner.inc m) refl refl h (is_there ss m)
   where
@@ -107,7 +107,7 @@ sound_here e o ts m ho ht = subst IsToldSet (sym (told_here e o ts m)) (go (inc_
     go true None h = ht
     go false o h = ht
 
-sound_sets : (s : Setup) (base : List law.Placed) (l : Life) (m : Inc) → IsTaking s base l → HasToldSets l → IsToldSet (told_of (told l) m)
+pub sound_sets : (s : Setup) (base : List law.Placed) (l : Life) (m : Inc) → IsTaking s base l → HasToldSets l → IsToldSet (told_of (told l) m)
 sound_sets s base [] m h k = absurd h
 sound_sets s base (Founds ∷ l) m h k = subst (λ (y : Life). IsToldSet (told_of (told y) m)) (sym h) tt
 sound_sets s base (Took e ∷ l) m h k = sound_here e (tells e.holds) (told l) m k.0 (sound_sets s base l m h.1 k.1)

@@ -4,16 +4,17 @@
 //! happened in the world to a run of the laws.
 #![tactic(auto)]
 
-ghost use Rattle.std.specs.Prelude.{◌≡◌, true, false, List, length, map};
+ghost use Rattle.std.specs.Prelude.{◌≡◌, ℕ, true, false, List, length, map};
 ghost use Rattle.gr_ids.specs.declared.names.Inc.{Inc};
 ghost use Rattle.gr_ids.specs.declared.names.Gtid.{Gtid};
-ghost use Rattle.gtid_sets.specs.Sets.{has};
+ghost use Rattle.gtid_sets.specs.Sets.{Gtids, has};
 ghost use Rattle.txn_forms.specs.declared.body.Txn.{Txn};
-ghost use Rattle.group_rules.specs.Events.{Life, Setup};
+ghost use Rattle.group_rules.specs.Events.{Life, Cert, Setup};
 ghost use Rattle.group_rules.specs.Life.{executed, taken, view, certs, has_give};
 ghost use Rattle.group_rules.specs.View.{is_seated, is_online};
 ghost use Rattle.group_rules.specs.Told.{told, told_of, stable};
 ghost use Rattle.group_rules.specs.Certifier.{certifier, next_gtid, verdict};
+ghost use Rattle.group_rules.specs.Recovery.{give_of};
 ghost use Rattle.group_rules.specs.World.{Past, life_in};
 ghost use Rattle.group_laws.specs.Entries as law;
 ghost use Rattle.group_laws.specs.View as seen;
@@ -22,8 +23,9 @@ ghost use Rattle.group_laws.specs.Primary as primary;
 ghost use Rattle.group_laws.specs.Verdict as decided;
 ghost use Rattle.group_laws.specs.Life as lives;
 ghost use Rattle.group_laws.specs.World as run;
+ghost use Rattle.group_laws.specs.World.{IsKeptList};
 ghost use Rattle.group_lives.specs.Lives.{law_cert, outcome_of, life_of, run_of};
-ghost use Rattle.group_lives.specs.Given.{IsHere};
+ghost use Rattle.group_lives.specs.Given.{IsHere, GivenAs};
 ghost use Rattle.group_lives.specs.Sound.{HasSets, IsTaking, HasToldSets, AddsNew};
 
 /// A life has executed what its history has.
@@ -55,6 +57,13 @@ pub fn certifiers_agree()
         → (next_gtid s.limits (certifier s l) m).number ≡ decided.next_number s (law.certified s (lives.marked (life_of base l))) m }
     ensures verdicts { (s : Setup) (base : List law.Placed) (l : Life) (o : Inc) (t : Txn) → IsTaking s base l → HasToldSets l → AddsNew s (lives.taken (life_of base l)) → IsHere s (lives.taken (life_of base l)) o
         → outcome_of (verdict s.limits (certifier s l) o t) ≡ decided.kept_parts s (lives.marked (life_of base l)) o (law.Write t) }
+{}
+
+/// A Give of a history that takes a list tells of that list: a joiner that takes it up goes on from there.
+pub fn a_give_tells_of_the_list()
+    ensures { (s : Setup) (base : List law.Placed) (l : Life) (cs : List Cert) (v : ℕ) (e : Gtids)
+        → IsTaking s base l → HasToldSets l → AddsNew s (lives.taken (life_of base l)) → IsKeptList s (lives.taken (life_of base l))
+        → GivenAs s (lives.marked (life_of base l)) (give_of s l cs v e) (view s l) (taken l) }
 {}
 
 /// The life of an incarnation in the run of a world is that of its history.
