@@ -5,7 +5,7 @@ mod Shapes
 mod Adds
 mod Spans
 mod Nexts
-mod Listed
+pub mod Listed
 mod Joins
 mod Members
 mod Seats

@@ -1,0 +1,8 @@
+use Rattle.group_legal.proofs.Scanned.{takes, scanned}
+use Rattle.group_legal.proofs.the_list_is_scanned.Goals as goal
+
+pub returns-clause-taking : goal.returns-clause-taking
+returns-clause-taking c = takes
+
+pub returns-clause-scanned : goal.returns-clause-scanned
+returns-clause-scanned c = scanned

@@ -1,0 +1,21 @@
+//! From the one log of a run to the laws of the group.
+//!
+//! The list that a log gives is said by `listed`, as the history of a founder that did nothing but take slots. Here it is a list of which the laws speak.
+#![tactic(auto)]
+
+ghost use Rattle.std.specs.Prelude.{◌≡◌, List};
+ghost use Rattle.slot_values.specs.declared.value.Value.{Value};
+ghost use Rattle.group_rules.specs.Events.{Setup};
+ghost use Rattle.group_rules.specs.OneList.{listed};
+ghost use Rattle.group_laws.specs.Entries as law;
+ghost use Rattle.group_laws.specs.Verdict as decided;
+ghost use Rattle.group_laws.specs.Life as lives;
+ghost use Rattle.group_lives.specs.Lives.{life_of};
+ghost use Rattle.group_lives.specs.Sound.{IsTaking};
+
+/// The list of a log has consecutive places and the effects of its view, and its verdicts are those that the laws find by a scan.
+pub fn the_list_is_scanned()
+    ensures taking { (t : Setup) (base : List law.Placed) (log : List Value) → IsTaking t base (listed t log) }
+    ensures scanned { (t : Setup) (base : List law.Placed) (log : List Value)
+        → lives.marked (life_of base (listed t log)) ≡ decided.scan t (lives.taken (life_of base (listed t log))) }
+{}
