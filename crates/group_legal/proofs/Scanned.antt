@@ -1,10 +1,8 @@
 -- The list of a log: its entries have their effects, and its verdicts are those of the scan of the laws.
-use Rattle.std.proofs.Common.{◌≡◌, inl, inr, ℕ, suc, ◌+◌, Bool, true, false, cond, not, ◌&&◌, ◌||◌, Option, Some, None, List, [], ◌∷◌, refl, sym, ap, subst, ◌∙◌, length, map, arith}
+use Rattle.std.proofs.Common.{◌≡◌, ℕ, suc, ◌+◌, Bool, true, false, cond, not, ◌&&◌, ◌||◌, Option, Some, None, List, [], ◌∷◌, refl, sym, ap, subst, ◌∙◌, length, map, arith}
 use Rattle.std.specs.Prelude.{filter, if◌then◌else◌}
 use Rattle.std.specs.List.{list_any, find}
-use Rattle.std.proofs.lemmas.Bool.{false≢true}
 use Rattle.gr_ids.specs.declared.names.Inc.{Inc}
-use Rattle.gr_ids.specs.declared.names.Gtid.{Gtid}
 use Rattle.gr_ids.specs.declared.names.OpenParts.{OpenParts}
 use Rattle.gr_ids.specs.Names.{inc_eq}
 use Rattle.gtid_sets.specs.Sets.{has}
@@ -16,19 +14,19 @@ use Rattle.slot_values.specs.declared.value.Value.{Value}
 use Rattle.slot_values.specs.declared.value.What.{What}
 use Rattle.slot_values.specs.declared.value.What.TheVariants.{Noop, Add, Remove, Body as Says}
 use Rattle.slot_values.specs.declared.kept.Kept.TheVariants.{At as KeptAt, Skipped as IsSkipped}
-use Rattle.slot_values.specs.Log.{Reading, is_kept, has_effect}
+use Rattle.slot_values.specs.Log.{is_kept, has_effect}
 use Rattle.txn_forms.specs.declared.body.Txn.{Txn}
 use Rattle.txn_forms.specs.declared.body.Body.{Body}
 use Rattle.txn_forms.specs.declared.body.Body.TheVariants.{Txn as Writes, Part as PartOf}
 use Rattle.group_rules.specs.declared.marks.Effect.{Effect}
-use Rattle.group_rules.specs.declared.marks.Effect.TheVariants.{Plain, Void, Unread, Positive, Conflict}
-use Rattle.group_rules.specs.Events.{Took, Life, Setup, Cert, Entry}
-use Rattle.group_rules.specs.Life.{view, taken, certs, has_give}
+use Rattle.group_rules.specs.declared.marks.Effect.TheVariants.{Plain, Void}
+use Rattle.group_rules.specs.Events.{Life, Setup, Cert, Entry}
+use Rattle.group_rules.specs.Life.{view, certs, has_give}
 use Rattle.group_rules.specs.View.{effect_in, void_if, is_idle}
 use Rattle.group_rules.specs.Parts.{open_parts, held, is_void_part}
 use Rattle.group_rules.specs.Certifier.{number_after, opens_block}
 use Rattle.group_rules.specs.OneList.{reading_of, scan, scan_by, scan_number, blocks_taken, number_in, scan_effect, scan_entry, stands_in_way, listed_by, listed}
-use Rattle.group_laws.specs.Lists.{newest, count_of}
+use Rattle.group_laws.specs.Lists.{newest}
 use Rattle.group_laws.specs.Entries as law
 use Rattle.group_laws.specs.Verdict as decided
 use Rattle.group_laws.specs.Life as lives
@@ -204,10 +202,10 @@ no_give t (v ∷ log) = go (is_kept (reading_of t log) v) (no_give t log)
     go true k = k
     go false k = k
 
-abbrev old_list : Setup → List law.Placed → List Value → List law.Placed
+abbrev pub old_list : Setup → List law.Placed → List Value → List law.Placed
 old_list t base log = lives.marked (life_of base (listed t log))
 
-abbrev new_entry : Setup → Value → List Value → Entry
+abbrev pub new_entry : Setup → Value → List Value → Entry
 new_entry t v log = scan_entry t (listed t log) (suc (length log)) ((reading_of t log).place + 1) (has_effect (reading_of t log) v.what) v
 
 new_outcome : (t : Setup) (base : List law.Placed) (v : Value) (log : List Value)

@@ -11,11 +11,13 @@ ghost use Rattle.group_laws.specs.Entries as law;
 ghost use Rattle.group_laws.specs.Verdict as decided;
 ghost use Rattle.group_laws.specs.Life as lives;
 ghost use Rattle.group_lives.specs.Lives.{life_of};
-ghost use Rattle.group_lives.specs.Sound.{IsTaking};
+ghost use Rattle.group_lives.specs.Sound.{IsTaking, AddsNew};
 
-/// The list of a log has consecutive places and the effects of its view, and its verdicts are those that the laws find by a scan.
+/// The list of a log has consecutive places and the effects of its view, its verdicts are those that the laws find by a scan,
+/// and it adds nobody twice.
 pub fn the_list_is_scanned()
     ensures taking { (t : Setup) (base : List law.Placed) (log : List Value) → IsTaking t base (listed t log) }
     ensures scanned { (t : Setup) (base : List law.Placed) (log : List Value)
         → lives.marked (life_of base (listed t log)) ≡ decided.scan t (lives.taken (life_of base (listed t log))) }
+    ensures adds_new { (t : Setup) (base : List law.Placed) (log : List Value) → AddsNew t (lives.taken (life_of base (listed t log))) }
 {}

@@ -2,12 +2,12 @@ mod Flips
 mod Logs
 mod Incs
 mod Shapes
-mod Adds
+pub mod Adds
 mod Spans
 mod Nexts
 pub mod Listed
 mod Joins
-mod Members
+pub mod Members
 mod Seats
 mod Steps
 mod Entries
