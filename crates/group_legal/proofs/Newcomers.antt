@@ -95,7 +95,7 @@ module _ (t : Setup) (base : List law.Placed) where
           let u : Void ≡ Plain = ap (λ (b : Bool). void_if (not b)) (sym e) ∙ y in
           absurd (cc u)
 
-  abbrev list_if : Bool → Value → List Value → List law.Value
+  abbrev pub list_if : Bool → Value → List Value → List law.Value
   list_if b v log = lives.taken (life_of base (listed_by t (listed t log) (suc (length log)) v (if b then KeptAt ((reading_of t log).place + 1) (has_effect (reading_of t log) v.what) else IsSkipped)))
 
   pub never : (log : List Value) (m : Inc) → has_inc (reading_of t log).ever m ≡ false → seen.standing t (at_log log) m ≡ seen.Absent

@@ -10,14 +10,16 @@ ghost use Rattle.group_rules.specs.OneList.{listed};
 ghost use Rattle.group_laws.specs.Entries as law;
 ghost use Rattle.group_laws.specs.Verdict as decided;
 ghost use Rattle.group_laws.specs.Life as lives;
+ghost use Rattle.group_laws.specs.World.{IsKeptList};
 ghost use Rattle.group_lives.specs.Lives.{life_of};
 ghost use Rattle.group_lives.specs.Sound.{IsTaking, AddsNew};
 
 /// The list of a log has consecutive places and the effects of its view, its verdicts are those that the laws find by a scan,
-/// and it adds nobody twice.
+/// it adds nobody twice, and each of its values is of one who then is a member, with the member's next number.
 pub fn the_list_is_scanned()
     ensures taking { (t : Setup) (base : List law.Placed) (log : List Value) → IsTaking t base (listed t log) }
     ensures scanned { (t : Setup) (base : List law.Placed) (log : List Value)
         → lives.marked (life_of base (listed t log)) ≡ decided.scan t (lives.taken (life_of base (listed t log))) }
     ensures adds_new { (t : Setup) (base : List law.Placed) (log : List Value) → AddsNew t (lives.taken (life_of base (listed t log))) }
+    ensures numbered { (t : Setup) (base : List law.Placed) (log : List Value) → IsKeptList t (lives.taken (life_of base (listed t log))) }
 {}

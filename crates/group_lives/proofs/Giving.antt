@@ -1,7 +1,6 @@
 -- What a history gives tells of its list.
-use Rattle.std.proofs.Common.{◌≡◌, ◌⊎◌, inl, inr, ℕ, suc, ◌≤◌, ◌<◌, Bool, true, false, cond, ◌&&◌, ◌||◌, List, [], ◌∷◌, length, refl, ◌∙◌, sym, ap, subst, arith}
-use Rattle.std.specs.Prelude.{Option, Some, None, filter}
-use Rattle.std.specs.List.{list_any}
+use Rattle.std.proofs.Common.{◌≡◌, ℕ, suc, Bool, true, false, cond, ◌||◌, List, [], ◌∷◌, length, refl, ◌∙◌, sym, ap, subst}
+use Rattle.std.specs.Prelude.{Option, Some, None}
 use Rattle.std.proofs.lemmas.Bool.{false≢true}
 use Rattle.gr_ids.specs.declared.names.Inc.{Inc}
 use Rattle.gr_ids.specs.Names.{inc_eq, has_inc}
@@ -10,11 +9,10 @@ use Rattle.node_rules.specs.declared.seat.Seat.{Seat}
 use Rattle.group_rules.specs.Names.{LastNumber, ToldSet}
 use Rattle.group_rules.specs.Events.{Life, Setup, Cert}
 use Rattle.group_rules.specs.Life.{view, taken}
-use Rattle.group_rules.specs.View.{View, is_online_state, is_seated, seated, online_incs}
+use Rattle.group_rules.specs.View.{View, seated, online_incs}
 use Rattle.group_rules.specs.Told.{told, told_of, sets_of}
 use Rattle.group_rules.specs.Certifier.{certifier, last_of, numbers_of}
 use Rattle.group_rules.specs.Recovery.{give_of}
-use Rattle.group_laws.specs.Lists.{Mem}
 use Rattle.group_laws.specs.Entries as law
 use Rattle.group_laws.specs.View as seen
 use Rattle.group_laws.specs.Verdict as decided
@@ -69,7 +67,7 @@ last_given xs (i ∷ is) m = go (last_of xs i) refl (inc_eq i m) refl (last_give
 
 -- ---- those that never were members wrote nothing
 
-came_in : (m o : Inc) (b : law.Body) (x : seen.Standing) → seen.stands_after m o b x ≡ seen.Absent → x ≡ seen.Absent
+pub came_in : (m o : Inc) (b : law.Body) (x : seen.Standing) → seen.stands_after m o b x ≡ seen.Absent → x ≡ seen.Absent
 came_in m o b x h = go b x h
   where
     kept : (t : Bool) (y z : seen.Standing) → cond t y z ≡ seen.Absent → (y ≡ seen.Absent → z ≡ seen.Absent) → z ≡ seen.Absent
@@ -130,7 +128,7 @@ strangers s (e ∷ ps) m k a = go (inc_eq e.value.origin m) refl (came_in m e.va
 
 -- ---- the Give
 
-has_seated : (ss : List Seat) (m : Inc) → has_inc (seated ss) m ≡ sat ss m
+pub has_seated : (ss : List Seat) (m : Inc) → has_inc (seated ss) m ≡ sat ss m
 has_seated [] m = refl
 has_seated (x ∷ ss) m = ap (λ (b : Bool). inc_eq x.joiner.inc m || b) (has_seated ss m)
 

@@ -1,5 +1,5 @@
 -- The numbers that a certifier gives, and the sets that members told it, are those of its life.
-use Rattle.std.proofs.Common.{◌≡◌, ℕ, suc, Bool, true, false, cond, List, [], ◌∷◌, ◌++◌, map, length, refl, ◌∙◌, sym, ap, subst}
+use Rattle.std.proofs.Common.{◌≡◌, ℕ, suc, Bool, true, false, cond, List, [], ◌∷◌, length, refl, ◌∙◌, sym, ap, subst}
 use Rattle.std.specs.Prelude.{Option, Some, None}
 use Rattle.std.proofs.lemmas.Bool.{false≢true}
 use Rattle.gr_ids.specs.declared.names.Inc.{Inc}
@@ -13,8 +13,8 @@ use Rattle.txn_forms.specs.declared.body.Body.TheVariants.{Txn as Writes, Execut
 use Rattle.group_rules.specs.Names.{LastNumber, ToldSet, KeptItem}
 use Rattle.group_rules.specs.declared.marks.Effect.{Effect}
 use Rattle.group_rules.specs.declared.marks.Effect.TheVariants.{Plain, Void, Unread, Positive, Conflict}
-use Rattle.group_rules.specs.Events.{Founds, Starts, Made, Took, Is, Answered, Restores, Enters, Life, Cert, Setup, Entry}
-use Rattle.group_rules.specs.Life.{certs, cert_by, view}
+use Rattle.group_rules.specs.Events.{Founds, Starts, Made, Took, Is, Answered, Restores, Enters, Life, Setup, Entry}
+use Rattle.group_rules.specs.Life.{view}
 use Rattle.group_rules.specs.View.{View}
 use Rattle.group_rules.specs.Told.{told, told_of, with_told, told_after, tells}
 use Rattle.group_rules.specs.Certifier.{Certifier, opens_block, certifier, certified_by, with_entry, forget_stable, last_of, with_last, next_gtid, number_after}

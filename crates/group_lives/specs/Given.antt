@@ -1,5 +1,5 @@
 -- What a Give and a Welcome tell a joiner, against the list up to its Add.
-use Rattle.std.specs.Prelude.{◌≡◌, ℕ, Bool, true, cond, Option, Some, None, List, [], ◌∷◌, length}
+use Rattle.std.specs.Prelude.{◌≡◌, ℕ, true, cond, Option, Some, None, List, [], ◌∷◌, length}
 use Rattle.gr_ids.specs.declared.names.Inc.{Inc}
 use Rattle.gr_ids.specs.declared.names.Gtid.{Gtid}
 use Rattle.gtid_sets.specs.Sets.{Gtids}

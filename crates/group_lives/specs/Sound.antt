@@ -8,7 +8,6 @@ use Rattle.txn_forms.specs.declared.body.Body.TheVariants.{Txn as Writes, Part a
 use Rattle.group_rules.specs.declared.marks.Effect.{Effect}
 use Rattle.group_rules.specs.declared.marks.Effect.TheVariants.{Positive, Conflict}
 use Rattle.group_rules.specs.Events.{Starts, Took, Committed, Restores, Enters, Founds, Life, Setup}
-use Rattle.gtid_sets.specs.Sets.{Gtids}
 use Rattle.group_rules.specs.Life.{view, taken}
 use Rattle.group_rules.specs.Told.{tells}
 use Rattle.group_rules.specs.View.{View, effect_in, void_if}
