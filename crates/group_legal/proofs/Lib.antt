@@ -1,3 +1,4 @@
 pub mod Scanned
 pub mod Newcomers
 pub mod Numbered
+pub mod Founders

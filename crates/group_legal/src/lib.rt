@@ -13,6 +13,10 @@ ghost use Rattle.group_laws.specs.Life as lives;
 ghost use Rattle.group_laws.specs.World.{IsKeptList};
 ghost use Rattle.group_lives.specs.Lives.{life_of};
 ghost use Rattle.group_lives.specs.Sound.{IsTaking, AddsNew};
+ghost use Rattle.group_legal.specs.Lists.{EveryFounderTakes};
+
+use group_order::slots_are_of_one_log;
+use group_runs::runs_are_of_nodes;
 
 /// The list of a log has consecutive places and the effects of its view, its verdicts are those that the laws find by a scan,
 /// it adds nobody twice, and each of its values is of one who then is a member, with the member's next number.
@@ -23,3 +27,11 @@ pub fn the_list_is_scanned()
     ensures adds_new { (t : Setup) (base : List law.Placed) (log : List Value) → AddsNew t (lives.taken (life_of base (listed t log))) }
     ensures numbered { (t : Setup) (base : List law.Placed) (log : List Value) → IsKeptList t (lives.taken (life_of base (listed t log))) }
 {}
+
+/// In every run of the group the history of a founder takes a list: each entry has the next place, and the effect that the rules give it.
+pub fn founders_take_a_list()
+    ensures { EveryFounderTakes }
+{
+    runs_are_of_nodes();
+    slots_are_of_one_log();
+}

@@ -1,10 +1,10 @@
 mod Flips
 mod Logs
-mod Incs
-mod Shapes
+pub mod Incs
+pub mod Shapes
 pub mod Adds
 mod Spans
-mod Nexts
+pub mod Nexts
 pub mod Listed
 mod Joins
 pub mod Members
