@@ -29,7 +29,7 @@ use Rattle.group_order.proofs.Incs.{inc_same, inc_is}
 use Rattle.group_order.proofs.Flips.{before_next}
 use Rattle.group_order.proofs.Shapes.{Shape, shapes, takes_after}
 use Rattle.group_order.proofs.Spans.{enters_waits}
-use Rattle.group_order.proofs.Nexts.{did_past, done_at}
+use Rattle.group_order.proofs.Nexts.{past_self, past_of, did_past, done_at}
 use Rattle.group_order.proofs.Listed.{listed_seats}
 use Rattle.group_order.proofs.Members.{members_were}
 use Rattle.group_order.proofs.Seats.{Distinct, members_distinct}
@@ -42,10 +42,6 @@ some_none x e = absurd (cc e)
 some_is : {A : Type 0} {x y : A} → Some x ≡ Some y → x ≡ y
 some_is {x = x} {y = y} e = cc
 
-pub past_self : (p : Past) → IsPast p p
-past_self [] = refl
-past_self (x ∷ p) = inl refl
-
 before_one : (log : List Value) → before_slot log 1 ≡ []
 before_one [] = refl
 before_one (v ∷ log) = ap (λ b. elim b [ true ↦ before_slot log 1 | false ↦ v ∷ log ]) (le-leb 1 (suc (length log)) (omega arith)) ∙ before_one log
@@ -56,12 +52,6 @@ kept_place r v p b h = go (is_kept r v) h
     go : (c : Bool) → KeptAt p b ≡ (if c then KeptAt (r.place + 1) (has_effect r v.what) else IsSkipped) → p ≡ r.place + 1
     go true q = cc
     go false q = absurd (cc q)
-
--- a past of a past
-pub past_of : (b a p : Past) → IsPast b p → IsPast a b → IsPast a p
-past_of b a [] k h = subst (λ y. IsPast a y) k h
-past_of b a (x ∷ p) (inl e) h = subst (λ y. IsPast a y) e h
-past_of b a (x ∷ p) (inr k) h = inr (past_of b a p k h)
 
 -- the time at which it was welcomed
 entered_in : (p : Past) (i : Inc) (w : Welcome) → entered (life_in p i) ≡ Some w → (q : Past) × IsPast (Does i (Enters w) ∷ q) p

@@ -28,6 +28,16 @@ some_is {x = x} {y = y} e = cc
 
 -- ---- what was done at some time
 
+pub past_self : (p : Past) → IsPast p p
+past_self [] = refl
+past_self (x ∷ p) = inl refl
+
+-- a past of a past
+pub past_of : (b a p : Past) → IsPast b p → IsPast a b → IsPast a p
+past_of b a [] k h = subst (λ y. IsPast a y) k h
+past_of b a (x ∷ p) (inl e) h = subst (λ y. IsPast a y) e h
+past_of b a (x ∷ p) (inr k) h = inr (past_of b a p k h)
+
 pub did_past : (P : Past → Inc → Did → Type 0) (p q : Past) → AllDid P p → IsPast q p → AllDid P q
 did_past P [] q h k = subst (λ y. AllDid P y) (sym k) tt
 did_past P (x ∷ p) q h (inl e) = subst (λ y. AllDid P y) (sym e) h

@@ -1,6 +1,8 @@
 -- Every run: one log, and each incarnation follows it.
 use Rattle.std.proofs.Common.{eqb, leb, map, ◌≡◌, ◌⊎◌, inl, inr, ℕ, suc, ◌+◌, ◌≤◌, ◌<◌, Bool, true, false, Option, Some, None, List, [], ◌∷◌, append-nil, refl, sym, ap, subst, ◌∙◌, length, take, arith}
-use Rattle.std.specs.Prelude.{◌==◌, ◌&&◌, ◌||◌, not}
+use Rattle.std.specs.Prelude.{◌==◌, ◌&&◌, ◌||◌, not, filter, nat_le}
+use Rattle.gtid_sets.specs.Sets.{minus}
+use Rattle.paxos_forms.specs.declared.message.Wire.TheVariants.{Ask as Asks}
 use Rattle.std.specs.List.{list_any}
 use Rattle.std.proofs.lemmas.Bool.{false≢true, cases_Bool, and_parts, eqb-true, leb-true, leb-false}
 use Rattle.gr_ids.specs.Names.{inc_eq, is_inc}
@@ -20,9 +22,10 @@ use Rattle.node_rules.specs.Chosen.{IsChosenLog}
 use Rattle.node_rules.specs.World as nodes
 use Rattle.order_laws.specs.Laws.{InEveryRun, OneLog, KeptAsInLog, Consecutive, WelcomesFollow, MadeBefore, AddedIn}
 use Rattle.group_rules.specs.Events.{Did, Founds, Starts, Came, Made, Took, Skips, Done, Committed, Is, Gave, Answered, Begun, Changed, Replied, Called, AsksCommit, Ends, Enters, Restores, AskFails, Hears, Life, Setup, Entry, Cert}
-use Rattle.group_rules.specs.Life.{state, is_recovering, view, entered, has_give, entry_at, upto}
+use Rattle.group_rules.specs.Life.{state, is_recovering, executed, view, entered, has_give, entry_at, upto}
 use Rattle.group_rules.specs.View.{seated}
-use Rattle.group_rules.specs.Recovery.{pending_ask, add_place, all_parts}
+use Rattle.group_rules.specs.Recovery.{pending_ask, add_place, all_parts, give_of}
+use Rattle.group_rules.specs.Rows.{known}
 use Rattle.group_rules.specs.Legal.{IsPast, last_slot, AddsInc, WasMade, SameEntry}
 use Rattle.group_rules.specs.Steps.{group_of}
 use Rattle.group_rules.specs.Taking.{takes_slots, entry_of}
@@ -31,7 +34,7 @@ use Rattle.group_rules.specs.OneList.{reading_of, value_at, before_slot, scan_en
 use Rattle.group_bridge.specs.Left.{IsRestored, IsSent, IsGiveSent, slot_left}
 use Rattle.group_bridge.specs.Moves.{slots_in}
 use Rattle.group_runs.specs.Runs.{as_sent, IsSetup, is_founder, AllDid, IsDone, HeardIn, WasGreeted, WasTold, WasSentAs, TookThen, OfSlots, OfNodes, EveryRun}
-use Rattle.group_order.specs.OneLog.{LeftBy, SkippedAs, IsReady, AgreesWith, Viewed, AgreesAt, Follows, NoOther, OneLogOf, EveryRunHasOne}
+use Rattle.group_order.specs.OneLog.{LeftBy, GivenBy, SkippedAs, IsReady, AgreesWith, Viewed, AgreesAt, Follows, NoOther, OneLogOf, EveryRunHasOne}
 use Rattle.group_order.proofs.Steps.{SlotTaken, Steps}
 use Rattle.group_order.proofs.Flips.{flip, flip_length, read_flip, take_flip, before_length}
 use Rattle.group_order.proofs.Logs.{LogOf, the_log, shorter, left_all}
@@ -39,11 +42,11 @@ use Rattle.group_order.proofs.Shapes.{Shape, shapes, takes_after}
 use Rattle.group_order.proofs.Incs.{inc_same, inc_is}
 use Rattle.group_order.proofs.Adds.{added_once}
 use Rattle.group_order.proofs.Spans.{Last, Span, spans}
-use Rattle.group_order.proofs.Nexts.{did_past, done_at, last_done, EnteredBy, entered_by, WelcomeAt, IsNext, all_next}
+use Rattle.group_order.proofs.Nexts.{past_self, past_of, did_past, done_at, last_done, EnteredBy, entered_by, WelcomeAt, IsNext, all_next}
 use Rattle.group_order.proofs.Joins.{TookAs, took_as, added_here, kept_is}
 use Rattle.group_order.proofs.Entries.{same_entry}
 use Rattle.group_order.proofs.Begins.{took_at}
-use Rattle.group_order.proofs.Agrees.{past_self, past_of, WelcomeFrom, GiveFrom, taker, all_agree}
+use Rattle.group_order.proofs.Agrees.{WelcomeFrom, GiveFrom, taker, all_agree}
 use Rattle.group_order.proofs.Lookups.{asks_over, slots_below, slot_by, value_within, listed_entry}
 
 -- ---- a kept value has a number, and is no Noop
@@ -236,8 +239,9 @@ module _ (t : Setup) (good : IsSetup t) (one : InEveryRun OneLog) (kept : InEver
       members : map {A = WelcomeMember} (λ y. record { inc = y.joiner.inc; last = y.last }) u.members ≡ (reading_of t (before_slot log (suc u.slot))).members
       members = law.4 ∙ ap (λ r. r.members) reading
 
-  give_from : (q : Past) (i : Inc) (g : Give) (cs : List Cert) → IsPast (Does i (Restores g cs) ∷ q) w.past → GiveFrom t q i g
-  give_from q i g cs k = record { giver = r.message.from; before = at.1.0; add = sent.add; earlier = earlier; parts = parts; welcome = (entered_here.0); entered = entered_here.1; place = place; ungiven = ungiven }
+  -- a Give tells what the history of its sender was
+  given_by : (q : Past) (i : Inc) (g : Give) (cs : List Cert) → IsPast (Does i (Restores g cs) ∷ q) w.past → GivenBy t q i g cs
+  given_by q i g cs k = record { giver = r.message.from; sent = told.0; sent_before = sent_before; add = sent.add; before = at.1.0; earlier = at.1.1; asked = ask.0; asked_before = asked_before; give = give; certs = r.certs; no_extra = no_extra; welcome = entered_here.0; entered = entered_here.1; place = place; ungiven = ungiven }
     where
       done_q : AllDid (IsDone t) q
       done_q = (did_past (IsDone t) w.past (Does i (Restores g cs) ∷ q) x.done k).1
@@ -266,17 +270,36 @@ module _ (t : Setup) (good : IsSetup t) (one : InEveryRun OneLog) (kept : InEver
       at : (sent.add.place ≡ sent.place) × ((q3 : Past) × IsPast (Does r.message.from (Took sent.add) ∷ q3) told.0 × (upto (life_in told.0 r.message.from) sent.place ≡ Took sent.add ∷ life_in q3 r.message.from))
       at = took_at told.0 r.message.from sent.place sent.add sent.there
 
-      before_came : IsPast at1.0 q
-      before_came = past_of (Does i (Came (Hears r.message)) ∷ at1.0) at1.0 q came_at (inr (past_self at1.0))
-
-      earlier : IsPast (Does r.message.from (Took sent.add) ∷ at.1.0) q
-      earlier = past_of at1.0 (Does r.message.from (Took sent.add) ∷ at.1.0) q before_came (past_of told.0 (Does r.message.from (Took sent.add) ∷ at.1.0) at1.0 told.1 at.1.1)
+      sent_before : IsPast told.0 q
+      sent_before = past_of at1.0 told.0 q (past_of (Does i (Came (Hears r.message)) ∷ at1.0) at1.0 q came_at (inr (past_self at1.0))) told.1
 
       up_to : upto (life_in told.0 r.message.from) sent.add.place ≡ Took sent.add ∷ life_in at.1.0 r.message.from
       up_to = ap (λ n. upto (life_in told.0 r.message.from) n) at.0 ∙ at.1.2
 
-      parts : g.parts ≡ all_parts (Took sent.add ∷ life_in at.1.0 r.message.from) (seated (view t (Took sent.add ∷ life_in at.1.0 r.message.from)).seats)
-      parts = ap (λ y. y.parts) sent.give ∙ ap (λ l. all_parts l (seated (view t l).seats)) up_to
+      -- the Ask that the giver heard
+      at2 : (q4 : Past) × IsPast (Does r.message.from (Came (Hears sent.message)) ∷ q4) told.0 × (life_in q4 r.message.from ≡ sent.past)
+      at2 = last_done told.0 r.message.from (Came (Hears sent.message)) sent.past sent.heard
+
+      ask_came : IsDone t at2.0 r.message.from (Came (Hears sent.message))
+      ask_came = done_at (IsDone t) q at2.0 r.message.from (Came (Hears sent.message)) done_q (past_of told.0 (Does r.message.from (Came (Hears sent.message)) ∷ at2.0) q sent_before at2.1)
+
+      ask : WasTold t at2.0 sent.message
+      ask = subst (λ y. WasSentAs t at2.0 sent.message y) sent.asked ask_came.2
+
+      asked_as : IsSent t (life_in ask.0 sent.message.from) sent.message.to (Asks (record { place = sent.place; executed = sent.set }))
+      asked_as = subst (λ y. IsSent t (life_in ask.0 sent.message.from) sent.message.to y) sent.asked ask.2
+
+      asked_before : IsPast ask.0 q
+      asked_before = past_of at2.0 ask.0 q (past_of (Does r.message.from (Came (Hears sent.message)) ∷ at2.0) at2.0 q (past_of told.0 (Does r.message.from (Came (Hears sent.message)) ∷ at2.0) q sent_before at2.1) (inr (past_self at2.0))) ask.1
+
+      asker : sent.message.from ≡ i
+      asker = sym sent.asker ∙ came.1
+
+      set : sent.set ≡ executed (life_in ask.0 i)
+      set = ap (λ y. y.executed) asked_as.2 ∙ ap (λ y. executed (life_in ask.0 y)) asker
+
+      give : g ≡ give_of t (Took sent.add ∷ life_in at.1.0 r.message.from) (filter (λ c. nat_le c.place sent.add.place) (known (life_in told.0 r.message.from))) sent.add.place (executed (life_in ask.0 i))
+      give = sent.give ∙ (λ n. give_of t (up_to n) (filter (λ c. nat_le c.place sent.add.place) (known (life_in told.0 r.message.from))) sent.add.place (set n))
 
       shape : Shape t i (life_in q i)
       shape = shapes t q done_q i
@@ -299,11 +322,19 @@ module _ (t : Setup) (good : IsSetup t) (one : InEveryRun OneLog) (kept : InEver
           let here : entered r.past ≡ Some entered_here.0 = sym (ap entered r.heard) ∙ entered_here.1 in
           ap (λ y. y.place) (sym sent.give) ∙ (eqb-true g.place (add_place (entered r.past)) r.place ∙ ap add_place here)
 
+      no_extra : minus (executed (life_in q i)) g.certified ≡ []
+      no_extra = ap (λ l. minus (executed l) g.certified) r.heard ∙ r.no_extra
+
       ungiven : has_give (life_in q i) ≡ false
       ungiven = elim (cases_Bool (has_give (life_in q i))) [
         | inl y ↦ (let none : pending_ask r.past ≡ None = sym (ap pending_ask r.heard) ∙ asks_over t q done_q i y in absurd (false≢true (sym (ap (λ o. is_inc o r.message.from) none) ∙ r.donor)))
         | inr y ↦ y
       ]
+
+  give_from : (q : Past) (i : Inc) (g : Give) (cs : List Cert) → IsPast (Does i (Restores g cs) ∷ q) w.past → GiveFrom t q i g
+  give_from q i g cs k =
+      let x = given_by q i g cs k in
+      record { giver = x.giver; before = x.before; add = x.add; earlier = past_of x.sent (Does x.giver (Took x.add) ∷ x.before) q x.sent_before x.earlier; parts = ap (λ y. y.parts) x.give; welcome = x.welcome; entered = x.entered; place = x.place; ungiven = x.ungiven }
 
   agree : (q : Past) → IsPast q w.past → (i : Inc) → Viewed t i (life_in q i) → AgreesAt t log q i
   agree = all_agree t good log w.past x.done steps welcome_from give_from w.past (λ q k. k)
@@ -457,7 +488,7 @@ module _ (t : Setup) (good : IsSetup t) (one : InEveryRun OneLog) (kept : InEver
       same_value u k = let z = done_at (Steps t log) w.past taken.1 taken.0 (Skips s u) steps k in let e : Some u ≡ Some v = sym z.value ∙ h in cc
 
   pub one_log : OneLogOf t w.past
-  one_log = record { log = log; follows = follows_all w.past (λ q k. k) steps; no_other = no_other; agrees = agree }
+  one_log = record { log = log; follows = follows_all w.past (λ q k. k) steps; no_other = no_other; given = given_by; agrees = agree }
 
 pub every_run_has_one : EveryRun → InEveryRun OneLog → InEveryRun KeptAsInLog → InEveryRun Consecutive → InEveryRun WelcomesFollow → InEveryRun MadeBefore → EveryRunHasOne
 every_run_has_one runs one kept consecutive welcomes before ms t q good =

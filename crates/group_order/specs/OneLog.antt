@@ -1,18 +1,22 @@
 -- The one log of a run: each slot that any incarnation takes or skips stands in it, with what it became there.
-use Rattle.std.specs.Prelude.{◌≡◌, ◌⊎◌, ◌<◌, ℕ, suc, Bool, true, false, Some, None, List, length}
+use Rattle.std.specs.Prelude.{◌≡◌, ◌⊎◌, ◌<◌, ℕ, suc, Bool, true, false, Some, None, List, [], ◌∷◌, length, filter, nat_le}
 use Rattle.gr_ids.specs.Names.{has_inc}
 use Rattle.gr_ids.specs.declared.names.Inc.{Inc}
 use Rattle.slot_values.specs.declared.value.Value.{Value}
 use Rattle.slot_values.specs.Log.{Reading, incs, became}
 use Rattle.slot_values.specs.declared.kept.Kept.TheVariants.{At as KeptAt, Skipped as IsSkipped}
 use Rattle.node_rules.specs.declared.taken.Taken.{Taken}
+use Rattle.gtid_sets.specs.Sets.{minus}
 use Rattle.paxos_forms.specs.declared.welcome.Welcome.{Welcome}
-use Rattle.group_rules.specs.Events.{Did, Took, Skips, Enters, Life, Setup, Entry}
-use Rattle.group_rules.specs.Life.{view, taken, entry_at, entered, has_give}
+use Rattle.paxos_forms.specs.declared.recovery.Give.{Give}
+use Rattle.group_rules.specs.Events.{Did, Took, Skips, Enters, Restores, Life, Setup, Entry, Cert}
+use Rattle.group_rules.specs.Life.{view, taken, executed, entry_at, entered, has_give}
 use Rattle.group_rules.specs.Parts.{open_parts}
 use Rattle.group_rules.specs.Legal.{IsPast, DidAt, last_slot, AddsInc, WasMade, SameEntry}
 use Rattle.group_rules.specs.Taking.{entry_of}
-use Rattle.group_rules.specs.World.{Past, Move, world_after, life_in}
+use Rattle.group_rules.specs.Recovery.{certs_given, give_of}
+use Rattle.group_rules.specs.Rows.{known}
+use Rattle.group_rules.specs.World.{Past, Does, Move, world_after, life_in}
 use Rattle.group_rules.specs.OneList.{listed, reading_of, value_at, before_slot}
 use Rattle.group_bridge.specs.Left.{taken_left}
 use Rattle.group_runs.specs.Runs.{IsSetup, is_founder, AllDid}
@@ -83,10 +87,30 @@ Follows t log p i d = Unit {0}
 abbrev pub NoOther : List Value → Past → Type 0
 NoOther log w = (s : ℕ) (v : Value) → value_at log s ≡ Some v → (i : Inc) × (p : Past) × (((e : Entry) × (e.slot ≡ s) × DidAt w i (Took e) p) ⊎ DidAt w i (Skips s v) p)
 
+-- A Give that is taken up was sent by one that had taken the Add; it tells of the giver's history up to there, and of the transactions that the giver knew then
+-- those that the joiner lacked when it asked.
+pub record GivenBy (t : Setup) (q : Past) (i : Inc) (g : Give) (cs : List Cert) : Type 0 where
+  pub giver : Inc
+  pub sent : Past
+  pub sent_before : IsPast sent q
+  pub add : Entry
+  pub before : Past
+  pub earlier : IsPast (Does giver (Took add) ∷ before) sent
+  pub asked : Past
+  pub asked_before : IsPast asked q
+  pub give : g ≡ give_of t (Took add ∷ life_in before giver) (filter (λ c. nat_le c.place add.place) (known (life_in sent giver))) add.place (executed (life_in asked i))
+  pub certs : cs ≡ certs_given g.txns
+  pub no_extra : minus (executed (life_in q i)) g.certified ≡ []
+  pub welcome : Welcome
+  pub entered : entered (life_in q i) ≡ Some welcome
+  pub place : add.place ≡ welcome.place
+  pub ungiven : has_give (life_in q i) ≡ false
+
 pub record OneLogOf (t : Setup) (w : Past) : Type 0 where
   pub log : List Value
   pub follows : AllDid (Follows t log) w
   pub no_other : NoOther log w
+  pub given : (q : Past) (i : Inc) (g : Give) (cs : List Cert) → IsPast (Does i (Restores g cs) ∷ q) w → GivenBy t q i g cs
   pub agrees : (q : Past) → IsPast q w → (i : Inc) → Viewed t i (life_in q i) → AgreesAt t log q i
 
 abbrev pub EveryRunHasOne : Type 0
