@@ -2,3 +2,5 @@ pub mod Scanned
 pub mod Newcomers
 pub mod Numbered
 pub mod Founders
+pub mod Prefix
+pub mod Told

@@ -3,7 +3,7 @@ mod Logs
 pub mod Incs
 pub mod Shapes
 pub mod Adds
-mod Spans
+pub mod Spans
 pub mod Nexts
 pub mod Listed
 mod Joins
