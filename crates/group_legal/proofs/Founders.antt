@@ -45,7 +45,7 @@ said_takes s l h v o x (Some (Writes t)) e = go (blocker (certifier s l).items t
 said_takes s l h v o x (Some (PartOf p)) e = (is_void_part o (Some (PartOf p)), refl)
 said_takes s l h v o x (Some b) e = (h, ap (λ (w : What). effect_in (view s l) h w (Some b)) e)
 
-entry_takes : (s : Setup) (l : Life) (h : Bool) (v : Value) (o : Option OpenParts) → IsEffect s (view s l) v.what (held o v.what) (effect_of s l h v o (held o v.what))
+pub entry_takes : (s : Setup) (l : Life) (h : Bool) (v : Value) (o : Option OpenParts) → IsEffect s (view s l) v.what (held o v.what) (effect_of s l h v o (held o v.what))
 entry_takes s l h v o = go v.what refl
   where
     go : (w : What) → v.what ≡ w → IsEffect s (view s l) w (held o w) (effect_of s l h v o (held o w))
@@ -55,7 +55,7 @@ entry_takes s l h v o = go v.what refl
     go (Remove i) e = (h, ap (λ (w : What). effect_in (view s l) h w None) e)
 
 -- a value that is kept is at the next place
-next_place : (r : Reading) (v : Value) (p : ℕ) (b : Bool) → KeptAt p b ≡ became r v → p ≡ suc r.place
+pub next_place : (r : Reading) (v : Value) (p : ℕ) (b : Bool) → KeptAt p b ≡ became r v → p ≡ suc r.place
 next_place r v p b e = go (is_kept r v) e
   where
     place_of : Kept → ℕ

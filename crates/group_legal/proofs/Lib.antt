@@ -4,3 +4,4 @@ pub mod Numbered
 pub mod Founders
 pub mod Prefix
 pub mod Told
+pub mod Takers
