@@ -34,6 +34,7 @@ use Rattle.group_rules.specs.declared.answers.Answer.{Answer}
 use Rattle.group_rules.specs.declared.answers.Answer.TheVariants.{Held, Got, Sent, CommittedEmpty, Committed as CommittedAs, RolledBack, Busy, NoTransaction, NotOnline, RowLocked, Killed, Conflict as ConflictWith, HoldTimeout, MemberLeft}
 use Rattle.group_rules.specs.declared.marks.Cause.{Cause}
 use Rattle.group_rules.specs.declared.marks.Cause.TheVariants.{Majority as NoMajority, Extra, NoDonor}
+use Rattle.group_rules.specs.declared.marks.Effect.TheVariants.{Conflict as Conflicts}
 use Rattle.group_rules.specs.declared.marks.Reply.TheVariants.{Sent as SentAs, Ballot as AtBallot, Asked, Failed, Finished, NotOnline as IsNotOnline, NoAskDue, NoAskPending, NotQueued, AlreadyDone}
 use Rattle.node_rules.specs.declared.event.PaxosEvent.TheVariants.{Own, Tick, Campaign as CampaignEvent}
 use Rattle.node_rules.specs.Node.{quiet}
@@ -41,12 +42,12 @@ use Rattle.node_rules.specs.Step.{node_step}
 use Rattle.node_rules.specs.World.{Campaigns, Proposes}
 use Rattle.node_rules.specs.World.{Ticks as NodeTicks}
 use Rattle.group_rules.specs.View.{seated}
-use Rattle.group_rules.specs.Events.{Came, Done, Made, Committed, Is, Gave, Answered, Begun, Changed, Replied, Called, AsksCommit, Ends, Restores, AskFails, Event, Hears, Ticks, Works, Calls, Operates, Life, Entry, Cert}
-use Rattle.group_rules.specs.Life.{state, is_up, is_offline, is_recovering, executed, view, certs, last_made, ticks, entry_at, entered, has_give}
+use Rattle.group_rules.specs.Events.{Came, Done, Made, Took, Committed, Is, Gave, Answered, Begun, Changed, Replied, Called, AsksCommit, Ends, Restores, AskFails, Event, Hears, Ticks, Works, Calls, Operates, Life, Entry, Cert}
+use Rattle.group_rules.specs.Life.{state, is_up, is_error, is_offline, is_recovering, executed, view, certs, last_made, ticks, entry_at, entered, has_give}
 use Rattle.group_rules.specs.Watch.{Watch, watch}
 use Rattle.group_rules.specs.Member.{Member, push, by_node, at_node, own, own_body, next_id, answer, last_answer, for_each, leave_session, fall, unanswered, waiting_as}
 use Rattle.txn_forms.specs.Bodies.{body_bytes}
-use Rattle.group_rules.specs.Sessions.{Phase, Free, Holding, Active, Asking, phase, is_holding, sessions, Call, last_call, changes}
+use Rattle.group_rules.specs.Sessions.{Phase, Free, Holding, Active, Asking, phase, is_holding, is_asking, sessions, Call, last_call, changes}
 use Rattle.group_rules.specs.Keys.{killed, was_left, holder}
 use Rattle.group_rules.specs.Rows.{row_then}
 use Rattle.group_rules.specs.Holds.{has_sync, sync_told}
@@ -63,7 +64,7 @@ use Rattle.group_rules.specs.Recovery.{is_ask_due, is_awaited, is_possible, add_
 use Rattle.group_rules.specs.Points.{asks_this, commit_all, prepare_all, begin_all, arrive, point, commit_one, answer_own, answer_commit, prepare_one, begin_one, begin_by, unless_pending}
 use Rattle.group_rules.specs.Taking.{answer_conflict, on_conflict, propose}
 use Rattle.group_rules.specs.Steps.{hear_add, done_of, time_out, time_out_by, expel_one, campaign_if_due, look_after, tell_at, member_tick, tick_on, tick_once, add_of, reply_ballot, reply_sent, if_online, leave, operate, held_mark}
-use Rattle.group_bridge.specs.Left.{IsPast, IsOpen, txn_then, MadeParts, HoldsRightly, with_all, AreOf, IsAnswered, IsEntered, IsRestored}
+use Rattle.group_bridge.specs.Left.{IsPast, IsOver, Fallen, Refused, Settled, IsEnded, Unasked, WasKilled, WasLeft, Over, IsOpen, txn_then, MadeParts, HoldsRightly, with_all, AreOf, IsAnswered, IsEntered, IsRestored}
 use Rattle.group_bridge.specs.Moves.{Moves, Stays, Leaves, Sends, Acts, Makes, Welcomes, Then}
 use Rattle.group_bridge.proofs.Lists.{in_left, in_right, in_either}
 
@@ -84,6 +85,27 @@ is_holding-phase (Asking i) e = absurd (false≢true e)
 of_more : (cs : List Cert) (c : Cert) (gs : List Gtid) → AreOf cs gs → AreOf (cs ++ c ∷ []) gs
 of_more cs c [] h = tt
 of_more cs c (g ∷ gs) h = ((h.0.0, in_left h.0.0 cs (c ∷ []) h.0.1, h.0.2), of_more cs c gs h.1)
+
+-- an answer ends nothing
+ended_still : (t s : ℕ) (x : Answer) (l : Life) → IsEnded l s → IsEnded (Answered t x ∷ l) s
+ended_still t s x l (Unasked h) = Unasked h
+ended_still t s x l (WasKilled g h) = WasKilled g h
+ended_still t s x l (WasLeft h) = WasLeft h
+ended_still t s x l (Over id h (Fallen k)) = Over id h (Fallen k)
+ended_still t s x l (Over id h (Refused y g past k v c)) = Over id h (Refused y g past (inr k) v c)
+ended_still t s x l (Over id h (Settled c past k m v)) = Over id h (Settled c past (inr k) m v)
+
+ended_in : (p : Phase) (l : Life) (s : ℕ) → phase l s ≡ p → is_asking p ≡ false → IsEnded l s
+ended_in p l s e h = Unasked (ap is_asking e ∙ h)
+
+id_same : (i j : ValueId) → id_eq i j ≡ true → i ≡ j
+id_same i j h =
+    let x = and_parts (inc_eq i.origin j.origin) (eqb i.number j.number) h in
+    let y = and_parts (eqb i.origin.server j.origin.server) (eqb i.origin.start j.origin.start) x.0 in
+    let a : i.origin.server ≡ j.origin.server = eqb-true i.origin.server j.origin.server y.0 in
+    let b : i.origin.start ≡ j.origin.start = eqb-true i.origin.start j.origin.start y.1 in
+    let n : i.number ≡ j.number = eqb-true i.number j.number x.1 in
+    λ k. record { origin = record { server = a k; start = b k }; number = n k }
 
 eqb_false : (a b : ℕ) → (a ≡ b → ⊥) → (a == b) ≡ false
 eqb_false a b h = elim (cases_Bool (eqb a b)) [ inl q ↦ absurd (h (eqb-true a b q)) | inr q ↦ q ]
@@ -112,6 +134,10 @@ module _ (e : Event) where
   where_false true p q = p
   where_false false p q = q refl
 
+  where_both : {a x y : Member} → (b : Bool) → (b ≡ true → Moves e a x) → (b ≡ false → Moves e a y) → Moves e a (elim b [ true ↦ x | false ↦ y ])
+  where_both true p q = p refl
+  where_both false p q = q refl
+
   where_not : {a x y : Member} → (b : Bool) → Moves e a x → (b ≡ true → Moves e a y) → Moves e a (elim b [ false ↦ x | true ↦ y ])
   where_not false p q = p
   where_not true p q = q refl
@@ -139,28 +165,45 @@ module _ (e : Event) where
   moves_own_change : (w : What) (a : Member) → ((b : List ℕ) → w ≡ Says b → ⊥) → Moves e a (own w None a)
   moves_own_change w a h = moves_own w None a h
 
-  pub moves_last : (s : ℕ) (x : Answer) (a : Member) → IsAnswered a.me.inc a.life x → Moves e a (last_answer s x a)
-  moves_last s x a h = Then (Leaves (Answered s x) a h) (Leaves (Ends s) (push (Answered s x) a) tt)
+  pub moves_last : (s : ℕ) (x : Answer) (a : Member) → IsAnswered a.me.inc a.life x → IsEnded a.life s → Moves e a (last_answer s x a)
+  moves_last s x a h d = Then (Leaves (Answered s x) a h) (Leaves (Ends s) (push (Answered s x) a) (ended_still s s x a.life d))
 
   pub moves_each : {A : Type 0} → (f : A → Member → Member) → ((x : A) (a : Member) → Moves e a (f x a)) → (xs : List A) (a : Member) → Moves e a (for_each f xs a)
   moves_each f h [] a = Stays a
   moves_each f h (x ∷ xs) a = Then (h x a) (moves_each f h xs (f x a))
 
-  moves_unanswered : (s : ℕ) (i : ValueId) (o : Option Cert) (a : Member) → Moves e a (last_answer s (unanswered i o) a)
-  moves_unanswered s i None a = moves_last s (unanswered i None) a tt
-  moves_unanswered s i (Some c) a = moves_last s (unanswered i (Some c)) a tt
+  -- one after another, each where what holds before it still holds
+  moves_while : {A : Type 0} → (P : Member → Type 0) (f : A → Member → Member) → ((x : A) (a : Member) → P a → Moves e a (f x a)) → ((x : A) (a : Member) → P a → P (f x a)) → (xs : List A) (a : Member) → P a → Moves e a (for_each f xs a)
+  moves_while P f h k [] a p = Stays a
+  moves_while P f h k (x ∷ xs) a p = Then (h x a p) (moves_while P f h k xs (f x a) (k x a p))
 
-  moves_leave : (s : ℕ) (a : Member) → Moves e a (leave_session s a)
-  moves_leave s a = go (phase a.life s)
+  abbrev HasFallen : Member → Type 0
+  HasFallen a = is_error (state a.life) ≡ true
+
+  moves_unanswered : (s : ℕ) (i : ValueId) (o : Option Cert) (a : Member) → IsEnded a.life s → Moves e a (last_answer s (unanswered i o) a)
+  moves_unanswered s i None a d = moves_last s (unanswered i None) a tt d
+  moves_unanswered s i (Some c) a d = moves_last s (unanswered i (Some c)) a tt d
+
+  moves_leave : (s : ℕ) (a : Member) → HasFallen a → Moves e a (leave_session s a)
+  moves_leave s a f = go (phase a.life s) refl
     where
-      go : (p : Phase) → Moves e a (elim p [ Free ↦ a | Holding ↦ last_answer s MemberLeft a | Active ↦ a | Asking i ↦ last_answer s (unanswered i (waiting_as (pending a.life) i)) a ])
-      go Free = Stays a
-      go Holding = moves_last s MemberLeft a tt
-      go Active = Stays a
-      go (Asking i) = moves_unanswered s i (waiting_as (pending a.life) i) a
+      go : (p : Phase) → phase a.life s ≡ p → Moves e a (elim p [ Free ↦ a | Holding ↦ last_answer s MemberLeft a | Active ↦ a | Asking i ↦ last_answer s (unanswered i (waiting_as (pending a.life) i)) a ])
+      go Free q = Stays a
+      go Holding q = moves_last s MemberLeft a tt (ended_in Holding a.life s q refl)
+      go Active q = Stays a
+      go (Asking i) q = moves_unanswered s i (waiting_as (pending a.life) i) a (Over i q (Fallen f))
+
+  leave_keeps : (s : ℕ) (a : Member) → HasFallen a → HasFallen (leave_session s a)
+  leave_keeps s a f = go (phase a.life s)
+    where
+      go : (p : Phase) → HasFallen (elim p [ Free ↦ a | Holding ↦ last_answer s MemberLeft a | Active ↦ a | Asking i ↦ last_answer s (unanswered i (waiting_as (pending a.life) i)) a ])
+      go Free = f
+      go Holding = f
+      go Active = f
+      go (Asking i) = f
 
   pub moves_fall : (c : Cause) (a : Member) → Moves e a (fall c a)
-  moves_fall c a = Then (Leaves (Is Error c) a tt) (moves_each leave_session moves_leave (sessions (push (Is Error c) a).life) (push (Is Error c) a))
+  moves_fall c a = Then (Leaves (Is Error c) a tt) (moves_while HasFallen leave_session moves_leave leave_keeps (sessions (push (Is Error c) a).life) (push (Is Error c) a) refl)
 
   -- ---- session calls
 
@@ -193,20 +236,23 @@ module _ (e : Event) where
       go false u = Leaves (Answered s (NotOnline (state_then (last_call a.life s)))) a tt
       go true u = either (is_read_only a) (Leaves (Answered s (read_only a)) a tt) (moves_unless_locked s c (holder a.life a.me.inc s c.item) a o u refl)
 
+  open_ends : (s : ℕ) (a : Member) → IsOpen a.life s → IsEnded a.life s
+  open_ends s a o = ended_in Active a.life s o.active refl
+
   -- the parts of a large transaction, from one on: those before it were made
-  moves_cut : (t : Txn) (s : ℕ) (id : ValueId) (past : Life) → IsOpen past s → t ≡ txn_then past s → whole_bytes < length (body_bytes (HasTxn t)) →
+  moves_cut : (t : Txn) (s : ℕ) (id : ValueId) (past : Life) → IsOpen past s → (changes past s ≡ [] → ⊥) → t ≡ txn_then past s → whole_bytes < length (body_bytes (HasTxn t)) →
       (k c : ℕ) (b : List ℕ) (done : List Part) (a : Member) → k ≤ c → MadeParts done a.life (AsksCommit s id ∷ past) → reverse done ++ cut_from k c b ≡ cut (body_bytes (HasTxn t)) →
       Moves e a (for_each (own_part t) (cut_from k c b) a)
-  moves_cut t s id past o q large zero c b done a h m r = Stays a
-  moves_cut t s id past o q large (suc zero) c b done a h m r = go (p.index == p.count) (eq-eqb p.index p.count (omega arith))
+  moves_cut t s id past o ne q large zero c b done a h m r = Stays a
+  moves_cut t s id past o ne q large (suc zero) c b done a h m r = go (p.index == p.count) (eq-eqb p.index p.count (omega arith))
     where
       p : Part
       p = record { index = c - 0; count = c; bytes = take part_size b }
 
       go : (x : Bool) → x ≡ true → Moves e a (own (Says (body_bytes (PartOf p))) (Some (elim x [ true ↦ HasTxn t | false ↦ PartOf p ])) a)
-      go true y = moves_own (Says (body_bytes (PartOf p))) (Some (HasTxn t)) a (record { session = s; id = id; past = past; is_open = o; txn = q; parts = done; since = m; bytes = inr (p, refl, large, reverse-append (p ∷ []) done ∙ r) })
+      go true y = moves_own (Says (body_bytes (PartOf p))) (Some (HasTxn t)) a (record { session = s; id = id; past = past; is_open = o; some_changes = ne; txn = q; parts = done; since = m; bytes = inr (p, refl, large, reverse-append (p ∷ []) done ∙ r) })
       go false y = absurd (false≢true y)
-  moves_cut t s id past o q large (suc (suc k)) c b done a h m r = go (p.index == p.count) off (moves_cut t s id past o q large (suc k) c (drop part_size b) (p ∷ done) next (omega arith) since more)
+  moves_cut t s id past o ne q large (suc (suc k)) c b done a h m r = go (p.index == p.count) off (moves_cut t s id past o ne q large (suc k) c (drop part_size b) (p ∷ done) next (omega arith) since more)
     where
       p : Part
       p = record { index = c - suc k; count = c; bytes = take part_size b }
@@ -232,16 +278,16 @@ module _ (e : Event) where
       let i : ValueId = record { origin = a.me.inc; number = n } in
       Then (Leaves (AsksCommit s i) a o) (Then h (Leaves (Answered s (Sent i)) (f (push (AsksCommit s i) a)) tt))
 
-  moves_parts : (s : ℕ) (a : Member) → IsOpen a.life s → whole_bytes < length (body_bytes (HasTxn (txn_of s a))) → Moves e a (send_parts s (txn_of s a) (cut (body_bytes (HasTxn (txn_of s a)))) a)
-  moves_parts s a o large =
+  moves_parts : (s : ℕ) (a : Member) → IsOpen a.life s → (changes a.life s ≡ [] → ⊥) → whole_bytes < length (body_bytes (HasTxn (txn_of s a))) → Moves e a (send_parts s (txn_of s a) (cut (body_bytes (HasTxn (txn_of s a)))) a)
+  moves_parts s a o ne large =
       let t : Txn = txn_of s a in
       let b : List ℕ = body_bytes (HasTxn t) in
       let i : ValueId = record { origin = a.me.inc; number = last_made a.life + length (cut b) } in
       let c : ℕ = (length b + part_size - 1) / part_size in
-      moves_ask_commit s (last_made a.life + length (cut b)) (for_each (own_part t) (cut b)) a o (moves_cut t s i a.life o refl large c c b [] (push (AsksCommit s i) a) (omega arith) refl refl)
+      moves_ask_commit s (last_made a.life + length (cut b)) (for_each (own_part t) (cut b)) a o (moves_cut t s i a.life o ne refl large c c b [] (push (AsksCommit s i) a) (omega arith) refl refl)
 
-  moves_send_txn : (s : ℕ) (a : Member) → IsOpen a.life s → Moves e a (send_txn s (txn_of s a) (body_bytes (HasTxn (txn_of s a))) a)
-  moves_send_txn s a o = go (nat_le (length b) whole_bytes) refl
+  moves_send_txn : (s : ℕ) (a : Member) → IsOpen a.life s → (changes a.life s ≡ [] → ⊥) → Moves e a (send_txn s (txn_of s a) (body_bytes (HasTxn (txn_of s a))) a)
+  moves_send_txn s a o ne = go (nat_le (length b) whole_bytes) refl
     where
       t : Txn
       t = txn_of s a
@@ -254,15 +300,15 @@ module _ (e : Event) where
 
       go : (x : Bool) → nat_le (length b) whole_bytes ≡ x → Moves e a (elim x [ true ↦ ask_commit s (last_made a.life + 1) (own (Says b) (Some (HasTxn t))) a | false ↦ send_parts s t (cut b) a ])
       go true y = moves_ask_commit s (last_made a.life + 1) (own (Says b) (Some (HasTxn t))) a o
-          (moves_own (Says b) (Some (HasTxn t)) (push (AsksCommit s i) a) (record { session = s; id = i; past = a.life; is_open = o; txn = refl; parts = []; since = refl; bytes = inl (refl, refl, le_true (length b) whole_bytes y) }))
-      go false y = moves_parts s a o (le_false (length b) whole_bytes y)
+          (moves_own (Says b) (Some (HasTxn t)) (push (AsksCommit s i) a) (record { session = s; id = i; past = a.life; is_open = o; some_changes = ne; txn = refl; parts = []; since = refl; bytes = inl (refl, refl, le_true (length b) whole_bytes y) }))
+      go false y = moves_parts s a o ne (le_false (length b) whole_bytes y)
 
-  moves_commit_bytes : (s : ℕ) (a : Member) → IsOpen a.life s → Moves e a (commit_bytes s (txn_of s a) (body_bytes (HasTxn (txn_of s a))) a)
-  moves_commit_bytes s a o = either _ (moves_last s _ a tt) (moves_send_txn s a o)
+  moves_commit_bytes : (s : ℕ) (a : Member) → IsOpen a.life s → (changes a.life s ≡ [] → ⊥) → Moves e a (commit_bytes s (txn_of s a) (body_bytes (HasTxn (txn_of s a))) a)
+  moves_commit_bytes s a o ne = either _ (moves_last s _ a tt (open_ends s a o)) (moves_send_txn s a o ne)
 
-  moves_commit_changes : (s : ℕ) (cs : List Change) (a : Member) → IsOpen a.life s → Moves e a (commit_changes s cs a)
-  moves_commit_changes s [] a o = moves_last s CommittedEmpty a tt
-  moves_commit_changes s (c ∷ cs) a o = either _ (moves_last s (read_only a) a tt) (moves_commit_bytes s a o)
+  moves_commit_changes : (s : ℕ) (cs : List Change) (a : Member) → changes a.life s ≡ cs → IsOpen a.life s → Moves e a (commit_changes s cs a)
+  moves_commit_changes s [] a q o = moves_last s CommittedEmpty a tt (open_ends s a o)
+  moves_commit_changes s (c ∷ cs) a q o = either _ (moves_last s (read_only a) a tt (open_ends s a o)) (moves_commit_bytes s a o (λ k. let z : c ∷ cs ≡ [] = sym q ∙ k in absurd (cc z)))
 
   moves_in : (s : ℕ) (r : Request) (a : Member) → IsOpen a.life s → Moves e a (in_transaction s r a)
   moves_in s (Begin v w) a o = Leaves (Answered s Busy) a tt
@@ -270,8 +316,8 @@ module _ (e : Event) where
   moves_in s (Insert i r) a o = moves_statement s (record { item = i; what = Inserts r }) a o
   moves_in s (Update i r) a o = moves_statement s (record { item = i; what = Updates r }) a o
   moves_in s (Delete i) a o = moves_statement s (record { item = i; what = Deletes }) a o
-  moves_in s Commit a o = moves_commit_changes s (changes a.life s) a o
-  moves_in s Rollback a o = moves_last s RolledBack a tt
+  moves_in s Commit a o = moves_commit_changes s (changes a.life s) a refl o
+  moves_in s Rollback a o = moves_last s RolledBack a tt (open_ends s a o)
 
   moves_without : (s : ℕ) (r : Request) (a : Member) → phase a.life s ≡ Free → CalledLast s r a → Moves e a (without_transaction s r a)
   moves_without s (Begin v w) a f h = moves_begin s v w a f h
@@ -289,8 +335,8 @@ module _ (e : Event) where
   moves_by_phase s r (Asking i) a f k w h = Leaves (Answered s Busy) a tt
 
   moves_unless_killed : (s : ℕ) (r : Request) (o : Option Gtid) (a : Member) → killed a.life s ≡ o → CalledLast s r a → Moves e a (unless_killed s r o a)
-  moves_unless_killed s r (Some g) a k h = moves_last s (Killed g) a tt
-  moves_unless_killed s r None a k h = where_false _ (moves_last s MemberLeft a tt) (λ w. moves_by_phase s r (phase a.life s) a refl k w h)
+  moves_unless_killed s r (Some g) a k h = moves_last s (Killed g) a tt (WasKilled g k)
+  moves_unless_killed s r None a k h = where_both _ (λ w. moves_last s MemberLeft a tt (WasLeft w)) (λ w. moves_by_phase s r (phase a.life s) a refl k w h)
 
   pub moves_call : (s : ℕ) (r : Request) (a : Member) → CalledLast s r a → Moves e a (call s r a)
   unfolding call
@@ -391,11 +437,17 @@ module _ (e : Event) where
   -- a commit is answered after it
   moves_answers : (c : Cert) (past : Life) → In c (certs past) → (ss : List ℕ) (a : Member) → is_own a.me.inc c ≡ true → IsPast (Committed c.gtid ∷ past) a.life → Moves e a (for_each (answer_commit c) ss a)
   moves_answers c past k [] a o p = Stays a
-  moves_answers c past k (s ∷ ss) a o p = go (asks_this c (phase a.life s)) (moves_answers c past k ss (last_answer s (CommittedAs c.gtid) a) o (inr (inr p))) (moves_answers c past k ss a o p)
+  moves_answers c past k (s ∷ ss) a o p = go (asks_this c (phase a.life s)) refl (moves_answers c past k ss (last_answer s (CommittedAs c.gtid) a) o (inr (inr p))) (moves_answers c past k ss a o p)
     where
-      go : (x : Bool) → Moves e (last_answer s (CommittedAs c.gtid) a) (for_each (answer_commit c) ss (last_answer s (CommittedAs c.gtid) a)) → Moves e a (for_each (answer_commit c) ss a) → Moves e a (for_each (answer_commit c) ss (elim x [ true ↦ last_answer s (CommittedAs c.gtid) a | false ↦ a ]))
-      go true y z = Then (moves_last s (CommittedAs c.gtid) a (record { cert = c; past = past; mark = p; certified = k; is_it = refl; own = o })) y
-      go false y z = z
+      ended : (f : Phase) → phase a.life s ≡ f → asks_this c f ≡ true → IsEnded a.life s
+      ended (Asking i) q h = Over i q (Settled c past p k (sym (id_same i c.id h)))
+      ended Free q h = absurd (false≢true h)
+      ended Holding q h = absurd (false≢true h)
+      ended Active q h = absurd (false≢true h)
+
+      go : (x : Bool) → asks_this c (phase a.life s) ≡ x → Moves e (last_answer s (CommittedAs c.gtid) a) (for_each (answer_commit c) ss (last_answer s (CommittedAs c.gtid) a)) → Moves e a (for_each (answer_commit c) ss a) → Moves e a (for_each (answer_commit c) ss (elim x [ true ↦ last_answer s (CommittedAs c.gtid) a | false ↦ a ]))
+      go true q y z = Then (moves_last s (CommittedAs c.gtid) a (record { cert = c; past = past; mark = p; certified = k; is_it = refl; own = o }) (ended (phase a.life s) refl q)) y
+      go false q y z = z
 
   -- what an answer leaves as it is
   record Answers (a b : Member) : Type 0 where
@@ -504,17 +556,34 @@ module _ (e : Event) where
 
   -- ---- what an entry causes, but for a Welcome and the own state ONLINE
 
-  moves_answer_conflict : (i : ValueId) (g : Gtid) (s : ℕ) (a : Member) → Moves e a (answer_conflict i g s a)
-  moves_answer_conflict i g s a = go (phase a.life s)
-    where
-      go : (p : Phase) → Moves e a (elim p [ Asking j ↦ elim (id_eq i j) [ true ↦ last_answer s (ConflictWith g) a | false ↦ a ] | _ ↦ a ])
-      go Free = Stays a
-      go Holding = Stays a
-      go Active = Stays a
-      go (Asking j) = either _ (moves_last s (ConflictWith g) a tt) (Stays a)
+  -- the entry with this conflict was taken
+  abbrev TookRefused : Entry → Member → Type 0
+  TookRefused x a = (past : Life) × IsPast (Took x ∷ past) a.life
 
-  pub moves_on_conflict : (i : ValueId) (g : Gtid) (a : Member) → Moves e a (on_conflict i g a)
-  moves_on_conflict i g a = moves_each (answer_conflict i g) (moves_answer_conflict i g) (sessions a.life) a
+  moves_answer_conflict : (x : Entry) (g : Gtid) → x.effect ≡ Conflicts g → (s : ℕ) (a : Member) → TookRefused x a → Moves e a (answer_conflict x.value.id g s a)
+  moves_answer_conflict x g c s a h = go (phase a.life s) refl
+    where
+      go : (p : Phase) → phase a.life s ≡ p → Moves e a (elim p [ Asking j ↦ elim (id_eq x.value.id j) [ true ↦ last_answer s (ConflictWith g) a | false ↦ a ] | _ ↦ a ])
+      go Free q = Stays a
+      go Holding q = Stays a
+      go Active q = Stays a
+      go (Asking j) q = where_true _ (λ y. moves_last s (ConflictWith g) a tt (Over j q (Refused x g h.0 h.1 (id_same x.value.id j y) c))) (Stays a)
+
+  conflict_keeps : (x : Entry) (g : Gtid) (s : ℕ) (a : Member) → TookRefused x a → TookRefused x (answer_conflict x.value.id g s a)
+  conflict_keeps x g s a h = go (phase a.life s)
+    where
+      asked : (b : Bool) → TookRefused x (elim b [ true ↦ last_answer s (ConflictWith g) a | false ↦ a ])
+      asked true = (h.0, inr (inr h.1))
+      asked false = h
+
+      go : (p : Phase) → TookRefused x (elim p [ Asking j ↦ elim (id_eq x.value.id j) [ true ↦ last_answer s (ConflictWith g) a | false ↦ a ] | _ ↦ a ])
+      go Free = h
+      go Holding = h
+      go Active = h
+      go (Asking j) = asked (id_eq x.value.id j)
+
+  pub moves_on_conflict : (x : Entry) (g : Gtid) (a : Member) → x.effect ≡ Conflicts g → TookRefused x a → Moves e a (on_conflict x.value.id g a)
+  moves_on_conflict x g a c h = moves_while (TookRefused x) (answer_conflict x.value.id g) (moves_answer_conflict x g c) (conflict_keeps x g) (sessions a.life) a h
 
   pub moves_propose : (a : Member) → Moves e a (propose a)
   moves_propose a = either _ (Stays a) (Acts Proposes a refl)
@@ -535,12 +604,12 @@ module _ (e : Event) where
   pub moves_work : (p : ℕ) (b : Option (List ℕ)) (a : Member) → Moves e a (done_of p b (at_place (queue a.life a.me.inc) p) a)
   moves_work p b a = moves_done p b (at_place (queue a.life a.me.inc) p) a refl
 
-  moves_time_out_by : (s : ℕ) (o : Option Call) (a : Member) → Moves e a (time_out_by s o a)
-  moves_time_out_by s None a = Stays a
-  moves_time_out_by s (Some c) a = either _ (moves_last s (HoldTimeout c.limit) a tt) (Stays a)
+  moves_time_out_by : (s : ℕ) (o : Option Call) (a : Member) → phase a.life s ≡ Holding → Moves e a (time_out_by s o a)
+  moves_time_out_by s None a h = Stays a
+  moves_time_out_by s (Some c) a h = either _ (moves_last s (HoldTimeout c.limit) a tt (ended_in Holding a.life s h refl)) (Stays a)
 
   moves_time_out : (s : ℕ) (a : Member) → Moves e a (time_out s a)
-  moves_time_out s a = either _ (moves_time_out_by s (last_call a.life s) a) (Stays a)
+  moves_time_out s a = where_true _ (λ y. moves_time_out_by s (last_call a.life s) a (is_holding-phase (phase a.life s) y)) (Stays a)
 
   moves_remove : (i : Inc) (a : Member) → Moves e a (own (Remove i) None a)
   moves_remove i a = moves_own_change (Remove i) a (λ b q. absurd (cc q))

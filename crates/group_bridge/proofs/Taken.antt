@@ -241,7 +241,7 @@ module _ (e : Event) (a : Member) (x : Taken) (p : ℕ) (b : Bool) (t : (take a.
         go Void h = taken
         go Unread h = taken
         go (Positive g) h = taken
-        go (Conflict g) h = Then taken (moves_on_conflict e x.value.id g with_entry)
+        go (Conflict g) h = Then taken (moves_on_conflict e entry g with_entry h (a.life, inl refl))
 
   moves_kept : Moves e a (take_kept x.slot x.value (KeptAt p b) (by_node take a))
   moves_kept = go entry.holds refl

@@ -29,14 +29,15 @@ use Rattle.group_rules.specs.declared.requests.Request.TheVariants.{Begin}
 use Rattle.group_rules.specs.declared.answers.Answer.{Answer}
 use Rattle.group_rules.specs.declared.answers.Answer.TheVariants.{Committed as CommittedAs}
 use Rattle.group_rules.specs.declared.marks.Cause.TheVariants.{OwnOnline}
+use Rattle.group_rules.specs.declared.marks.Effect.TheVariants.{Conflict as Conflicts}
 use Rattle.group_rules.specs.declared.marks.Reply.{Reply}
 use Rattle.group_rules.specs.declared.marks.Reply.TheVariants.{Asked}
 use Rattle.txn_forms.specs.Bodies.{body_bytes}
 use Rattle.group_rules.specs.Events.{Did, Founds, Starts, Came, Made, Took, Skips, Done, Committed, Is, Gave, Answered, Begun, Changed, Replied, Called, AsksCommit, Ends, Enters, Restores, AskFails, Event, Hears, Calls, Life, Setup, Entry, Cert}
-use Rattle.group_rules.specs.Life.{state, is_up, is_offline, is_recovering, executed, certs, last_made, is_arrival, has_give, entered, entry_at, upto}
+use Rattle.group_rules.specs.Life.{state, is_up, is_error, is_offline, is_recovering, executed, certs, last_made, is_arrival, has_give, entered, entry_at, upto}
 use Rattle.group_rules.specs.Queue.{pending, queue, at_place, is_done, is_own}
 use Rattle.group_rules.specs.Commit.{may_commit, owes_prepared}
-use Rattle.group_rules.specs.Sessions.{Free, Holding, Active, phase, Call, last_call, changes}
+use Rattle.group_rules.specs.Sessions.{Free, Holding, Active, Asking, is_asking, phase, Call, last_call, changes}
 use Rattle.group_rules.specs.Keys.{killed, was_left, holder}
 use Rattle.group_rules.specs.Rows.{fits, row_now, known}
 use Rattle.group_rules.specs.Holds.{is_released, sync_told}
@@ -73,6 +74,7 @@ pub record AsksFor (l : Life) (v : Value) (t : Txn) : Type 0 where
   pub id : ValueId
   pub past : Life
   pub is_open : IsOpen past session
+  pub some_changes : changes past session ≡ [] → ⊥
   pub txn : t ≡ txn_then past session
   pub parts : List Part
   pub since : MadeParts parts l (AsksCommit session id ∷ past)
@@ -143,6 +145,19 @@ pub record IsChanged (i : Inc) (l : Life) (session : ℕ) (change : Change) : Ty
   pub free : holder l i session change.item ≡ None
   pub fits : fits change.what (row_now l session change.item) ≡ true
 
+-- The value of this identity waits no more: it was taken with a conflict, or it is committed, or the incarnation took ERROR.
+pub data IsOver (l : Life) (id : ValueId) : Type 0 where
+  Fallen : is_error (state l) ≡ true → IsOver l id
+  Refused : (x : Entry) (g : Gtid) (past : Life) → IsPast (Took x ∷ past) l → x.value.id ≡ id → x.effect ≡ Conflicts g → IsOver l id
+  Settled : (c : Cert) (past : Life) → IsPast (Committed c.gtid ∷ past) l → In c (certs past) → c.id ≡ id → IsOver l id
+
+-- A transaction ends whose commit isn't asked, or which was killed or left, or whose value waits no more.
+pub data IsEnded (l : Life) (s : ℕ) : Type 0 where
+  Unasked : is_asking (phase l s) ≡ false → IsEnded l s
+  WasKilled : (g : Gtid) → killed l s ≡ Some g → IsEnded l s
+  WasLeft : was_left l s ≡ true → IsEnded l s
+  Over : (id : ValueId) → phase l s ≡ Asking id → IsOver l id → IsEnded l s
+
 -- ---- joining
 
 -- a Welcome in order, for this incarnation, which is OFFLINE
@@ -204,7 +219,7 @@ IsLeft e s i l (Changed t c) = IsChanged i l t c
 IsLeft e s i l (Replied r) = IsReplied l r
 IsLeft e s i l (Called t v w) = (phase l t ≡ Free) × ((past : Life) × (l ≡ Came (Calls t (Begin v w)) ∷ past))
 IsLeft e s i l (AsksCommit t id) = IsOpen l t
-IsLeft e s i l (Ends t) = Unit {0}
+IsLeft e s i l (Ends t) = IsEnded l t
 IsLeft e s i l (Enters w) = ⊥
 IsLeft e s i l (Restores g cs) = IsRestored s l g cs
 IsLeft e s i l AskFails = Unit {0}
