@@ -202,8 +202,11 @@ module _ (e : Event) where
       go Active = f
       go (Asking i) = f
 
+  pub moves_fallen : (c : Cause) (a : Member) → Moves e (push (Is Error c) a) (fall c a)
+  moves_fallen c a = moves_while HasFallen leave_session moves_leave leave_keeps (sessions (push (Is Error c) a).life) (push (Is Error c) a) refl
+
   pub moves_fall : (c : Cause) (a : Member) → Moves e a (fall c a)
-  moves_fall c a = Then (Leaves (Is Error c) a tt) (moves_while HasFallen leave_session moves_leave leave_keeps (sessions (push (Is Error c) a).life) (push (Is Error c) a) refl)
+  moves_fall c a = Then (Leaves (Is Error c) a tt) (moves_fallen c a)
 
   -- ---- session calls
 

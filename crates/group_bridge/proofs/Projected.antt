@@ -1,6 +1,6 @@
 -- What follows from moves: the node comes from a list of acts, the messages are theirs or aren't the node's, the history grows.
 use Rattle.std.proofs.Common.{not, append_assoc, append-nil, ◌≡◌, ◌⊎◌, inl, inr, Bool, true, false, Option, Some, None, List, [], ◌∷◌, ◌++◌, refl, sym, ◌∙◌, ap, subst}
-use Rattle.std.specs.Prelude.{ℕ, if◌then◌else◌, map, flat_map}
+use Rattle.std.specs.Prelude.{ℕ, ◌||◌, if◌then◌else◌, map, flat_map}
 use Rattle.std.proofs.lemmas.Bool.{false≢true}
 use Rattle.gr_ids.specs.Names.{inc_eq}
 use Rattle.gr_ids.specs.declared.names.Inc.{Inc}
@@ -17,7 +17,7 @@ use Rattle.node_rules.specs.Taking.{take}
 use Rattle.node_rules.specs.Welcoming.{Shown, welcome_of}
 use Rattle.node_rules.specs.World.{Act, Owns, Campaigns, Ticks, Proposes, Takes, does, does_all, greets, greet_by, made_by, all_made_by}
 use Rattle.order_laws.specs.Laws.{is_taking, is_joining, OnlyTakingTakes, OnlyTakingGreets, TakingIsSilent}
-use Rattle.group_rules.specs.declared.marks.Cause.TheVariants.{OwnOnline, Welcomed}
+use Rattle.group_rules.specs.declared.marks.Cause.TheVariants.{OwnOnline, Removed, Welcomed}
 use Rattle.gr_ids.specs.declared.levels.MemberState.TheVariants.{Offline, Recovering, Online, Error}
 use Rattle.slot_values.specs.declared.value.Joiner.{Joiner}
 use Rattle.slot_values.specs.declared.value.What.{What}
@@ -32,7 +32,7 @@ use Rattle.group_rules.specs.View.{shown}
 use Rattle.group_rules.specs.Parts.{open_parts, held}
 use Rattle.group_rules.specs.Member.{Member}
 use Rattle.group_rules.specs.Taking.{effect_of, entry_of}
-use Rattle.group_bridge.specs.Left.{IsLeft, is_settled, IsAfterAll, IsSent, slot_left, taken_left, is_arrival_of, with_rise}
+use Rattle.group_bridge.specs.Left.{IsLeft, is_settled, IsAfterAll, IsSent, slot_left, taken_left, is_arrival_of, is_exit_of, own_state, with_state}
 use Rattle.group_bridge.specs.Moves.{is_apart, is_inner, is_ask_or_give, IsShown, IsRead, reads, Moves, Stays, Leaves, Sends, Acts, Makes, Welcomes, Reads, Then, Each, IsAllowed, TookBy, TookRightly, SentBy, GreetedBy, slots_in, IsActs, StepIsActs}
 use Rattle.group_bridge.proofs.Lists.{in_left, in_right, in_either}
 use Rattle.group_bridge.proofs.Taken.{steps}
@@ -592,17 +592,20 @@ module _ (only_takes : OnlyTakingTakes) (only_greets : OnlyTakingGreets) (silent
           ((m : Message) (w : Welcome) → In m (a.sent ++ (does a.me.inc (Takes g) a.node).sent) → m.wire ≡ Greet w → In m a.sent ⊎ GreetedBy a more m w) → IsActs e a (record (reads g x a) { life = more ++ a.life })
       made_so more w u t z q = record { acts = Takes g ∷ []; node = refl; sent = λ m h. one_sent m (Takes g) a h; more = more; grown = refl; allowed = w; settled = u; took = t; slots = slot_of_one g x a r ∙ z; made = λ v h. absurd h; asked = λ m h k. no_ask_taking g x a more r m h k; greeted = q; me = refl; setup = refl }
 
-      rises : (p : ℕ) (b : Bool) → x.kept ≡ KeptAt p b → (c : Bool) → is_arrival_of a.me.inc (entry_of a.setup a.life x.slot p b x.value) ≡ c → IsActs e a (record (reads g x a) { life = elim c [ true ↦ Is Online OwnOnline ∷ Took (entry_of a.setup a.life x.slot p b x.value) ∷ a.life | false ↦ Took (entry_of a.setup a.life x.slot p b x.value) ∷ a.life ] })
-      rises p b q true h =
+      comes : (p : ℕ) (b : Bool) → x.kept ≡ KeptAt p b → (c d : Bool) → (let y : Entry = entry_of a.setup a.life x.slot p b x.value in is_arrival_of a.me.inc y ≡ c → is_exit_of a.me.inc y ≡ d → IsActs e a (record (reads g x a) { life = own_state c d y a.life }))
+      comes p b q true d h u =
           let y : Entry = entry_of a.setup a.life x.slot p b x.value in
           made_so (Is Online OwnOnline ∷ Took y ∷ []) ((y, a.life, refl, h), (r.ready, tt)) (λ s. (refl, (tt, (s, tt)))) (tt, (one_taken a x g r (Took y) (ap (λ k. slot_left a.setup a.life x.slot x.value k) (sym q)), tt)) refl (greets_taking g x a y (Is Online OwnOnline ∷ []) p b r q refl)
-      rises p b q false h =
+      comes p b q false true h u =
           let y : Entry = entry_of a.setup a.life x.slot p b x.value in
-          made_so (Took y ∷ []) (r.ready, tt) (λ s. (ap not h, (s, tt))) (one_taken a x g r (Took y) (ap (λ k. slot_left a.setup a.life x.slot x.value k) (sym q)), tt) refl (greets_taking g x a y [] p b r q refl)
+          made_so (Is Error Removed ∷ Took y ∷ []) (tt, (r.ready, tt)) (λ s. (refl, (tt, (s, tt)))) (tt, (one_taken a x g r (Took y) (ap (λ k. slot_left a.setup a.life x.slot x.value k) (sym q)), tt)) refl (greets_taking g x a y (Is Error Removed ∷ []) p b r q refl)
+      comes p b q false false h u =
+          let y : Entry = entry_of a.setup a.life x.slot p b x.value in
+          made_so (Took y ∷ []) (r.ready, tt) (λ s. ((λ k. not (h k || u k)), (s, tt))) (one_taken a x g r (Took y) (ap (λ k. slot_left a.setup a.life x.slot x.value k) (sym q)), tt) refl (greets_taking g x a y [] p b r q refl)
 
-      go : (k : Kept) → x.kept ≡ k → IsActs e a (record (reads g x a) { life = with_rise a.me.inc (slot_left a.setup a.life x.slot x.value k) a.life })
+      go : (k : Kept) → x.kept ≡ k → IsActs e a (record (reads g x a) { life = with_state a.me.inc (slot_left a.setup a.life x.slot x.value k) a.life })
       go IsSkipped q = made_so (Skips x.slot x.value ∷ []) (r.ready, tt) (λ s. (refl, (s, tt))) (one_taken a x g r (Skips x.slot x.value) (ap (λ k. slot_left a.setup a.life x.slot x.value k) (sym q)), tt) refl (skips_taking g x a (Skips x.slot x.value ∷ []) r q)
-      go (KeptAt p b) q = rises p b q (is_arrival_of a.me.inc (entry_of a.setup a.life x.slot p b x.value)) refl
+      go (KeptAt p b) q = comes p b q (is_arrival_of a.me.inc (entry_of a.setup a.life x.slot p b x.value)) (is_exit_of a.me.inc (entry_of a.setup a.life x.slot p b x.value)) refl refl
 
   pub is_acts : {e : Event} {a b : Member} → Moves e a b → IsActs e a b
   is_acts (Stays a) = record { acts = []; node = refl; sent = λ m h. inl h; more = []; grown = refl; allowed = tt; settled = λ h. (h, tt); took = tt; slots = refl; made = λ v h. absurd h; asked = λ m h k. inl h; greeted = λ m w h k. inl h; me = refl; setup = refl }

@@ -3,6 +3,7 @@ use Rattle.std.proofs.Common.{append_assoc, ◌≡◌, inl, inr, ℕ, zero, suc,
 use Rattle.std.proofs.lemmas.Bool.{false≢true, and_parts}
 use Rattle.std.specs.Prelude.{◌^◌, ◌==◌, ◌&&◌, not, flat_map, if◌then◌else◌}
 use Rattle.gr_ids.specs.Names.{inc_eq}
+use Rattle.gr_ids.specs.declared.names.Inc.{Inc}
 use Rattle.gr_ids.specs.declared.levels.MemberState.TheVariants.{Online}
 use Rattle.gtid_sets.specs.Sets.{Gtids}
 use Rattle.slot_values.specs.declared.value.Joiner.{Joiner}
@@ -39,9 +40,9 @@ use Rattle.group_rules.specs.Welcomes.{greet_by}
 use Rattle.group_rules.specs.Points.{point}
 use Rattle.group_rules.specs.Taking.{entry_of, effect_of, on_plain, causes, take_kept, take_slot, next_slot, takes_slots, take_slots, propose, rounds, settle_slots}
 use Rattle.group_rules.specs.Steps.{hear_add, hear_offer, hear_wire, hear_in_error, act_alive, act_in_error, act, held_mark, step}
-use Rattle.group_bridge.specs.Left.{slot_left, taken_left, is_arrival_of, with_rise}
+use Rattle.group_bridge.specs.Left.{slot_left, taken_left, is_arrival_of, is_exit, is_exit_of, own_state, with_state}
 use Rattle.group_bridge.specs.Moves.{is_apart, IsShown, Moves, Stays, Leaves, Reads, Then, cleared, Steps}
-use Rattle.group_bridge.proofs.Moved.{moves_fall, moves_on_conflict, moves_point, moves_propose, moves_hear_add, moves_hear_welcome, moves_check_ask, moves_ask, moves_give, moves_tick_once, moves_work, moves_call, moves_operate, moves_held}
+use Rattle.group_bridge.proofs.Moved.{moves_fall, moves_fallen, moves_on_conflict, moves_point, moves_propose, moves_hear_add, moves_hear_welcome, moves_check_ask, moves_ask, moves_give, moves_tick_once, moves_work, moves_call, moves_operate, moves_held}
 
 -- ---- lists
 
@@ -79,12 +80,12 @@ no_greets m (x ∷ xs) = no_greets m xs
 -- ---- what a slot leaves
 
 -- a member takes the next slot, and its node does
-reads_plainly : (e : Event) (a : Member) (x : Taken) → (take a.node).took ≡ x ∷ [] → takes_slots a.life ≡ true → Moves e a (record (by_node take a) { life = with_rise a.me.inc (taken_left a.setup a.life x) a.life })
-reads_plainly e a x t y = subst (λ s. Moves e a (record a { node = (take a.node).node; sent = a.sent ++ s; life = with_rise a.me.inc (taken_left a.setup a.life x) a.life })) (ap (λ l. (take a.node).sent ++ l) (no_greets (take a.node).node (take a.node).took) ∙ append_nil (take a.node).sent) (Reads None x a (record { took = t; ready = y; shown = tt }))
+reads_plainly : (e : Event) (a : Member) (x : Taken) → (take a.node).took ≡ x ∷ [] → takes_slots a.life ≡ true → Moves e a (record (by_node take a) { life = with_state a.me.inc (taken_left a.setup a.life x) a.life })
+reads_plainly e a x t y = subst (λ s. Moves e a (record a { node = (take a.node).node; sent = a.sent ++ s; life = with_state a.me.inc (taken_left a.setup a.life x) a.life })) (ap (λ l. (take a.node).sent ++ l) (no_greets (take a.node).node (take a.node).took) ∙ append_nil (take a.node).sent) (Reads None x a (record { took = t; ready = y; shown = tt }))
 
 -- where it isn't its own Online entry
-reads_one : (e : Event) (a : Member) (x : Taken) (d : Did) → (take a.node).took ≡ x ∷ [] → takes_slots a.life ≡ true → taken_left a.setup a.life x ≡ d → with_rise a.me.inc d a.life ≡ d ∷ a.life → Moves e a (push d (by_node take a))
-reads_one e a x d t y q r = subst (λ l. Moves e a (record (by_node take a) { life = l })) (ap (λ c. with_rise a.me.inc c a.life) q ∙ r) (reads_plainly e a x t y)
+reads_one : (e : Event) (a : Member) (x : Taken) (d : Did) → (take a.node).took ≡ x ∷ [] → takes_slots a.life ≡ true → taken_left a.setup a.life x ≡ d → with_state a.me.inc d a.life ≡ d ∷ a.life → Moves e a (push d (by_node take a))
+reads_one e a x d t y q r = subst (λ l. Moves e a (record (by_node take a) { life = l })) (ap (λ c. with_state a.me.inc c a.life) q ∙ r) (reads_plainly e a x t y)
 
 -- ---- with a Welcome
 
@@ -97,9 +98,9 @@ greets_one v u m x j t d e = go (takes_effect x.kept) t
     go false h = absurd (false≢true h)
 
 -- the member after its node took the slot, and after what it left, with the Welcome sent
-sends_greeting : (e : Event) (a : Member) (x : Taken) (v : Shown) (g : Message) (d : Did) → taken_left a.setup a.life x ≡ d → with_rise a.me.inc d a.life ≡ d ∷ a.life → (take a.node).took ≡ x ∷ [] → takes_slots a.life ≡ true → IsShown a x (Some v) → greets (Some v) (take a.node).node x ≡ g ∷ [] →
+sends_greeting : (e : Event) (a : Member) (x : Taken) (v : Shown) (g : Message) (d : Did) → taken_left a.setup a.life x ≡ d → with_state a.me.inc d a.life ≡ d ∷ a.life → (take a.node).took ≡ x ∷ [] → takes_slots a.life ≡ true → IsShown a x (Some v) → greets (Some v) (take a.node).node x ≡ g ∷ [] →
     Moves e a (push d (record a { node = (take a.node).node; sent = (a.sent ++ (take a.node).sent) ++ g ∷ [] }))
-sends_greeting e a x v g d q r t y w h = subst (λ l. Moves e a (record a { node = (take a.node).node; sent = (a.sent ++ (take a.node).sent) ++ g ∷ []; life = l })) (ap (λ c. with_rise a.me.inc c a.life) q ∙ r) sent_first
+sends_greeting e a x v g d q r t y w h = subst (λ l. Moves e a (record a { node = (take a.node).node; sent = (a.sent ++ (take a.node).sent) ++ g ∷ []; life = l })) (ap (λ c. with_state a.me.inc c a.life) q ∙ r) sent_first
   where
     one : flat_map (greets (Some v) (take a.node).node) (take a.node).took ≡ g ∷ []
     one = ap (λ l. flat_map (greets (Some v) (take a.node).node) l) t ∙ (append_nil (greets (Some v) (take a.node).node x) ∙ h)
@@ -107,8 +108,8 @@ sends_greeting e a x v g d q r t y w h = subst (λ l. Moves e a (record a { node
     eq : a.sent ++ ((take a.node).sent ++ flat_map (greets (Some v) (take a.node).node) (take a.node).took) ≡ (a.sent ++ (take a.node).sent) ++ g ∷ []
     eq = ap (λ l. a.sent ++ ((take a.node).sent ++ l)) one ∙ sym (append_assoc a.sent (take a.node).sent (g ∷ []))
 
-    sent_first : Moves e a (record a { node = (take a.node).node; sent = (a.sent ++ (take a.node).sent) ++ g ∷ []; life = with_rise a.me.inc (taken_left a.setup a.life x) a.life })
-    sent_first = subst (λ s. Moves e a (record a { node = (take a.node).node; sent = s; life = with_rise a.me.inc (taken_left a.setup a.life x) a.life })) eq (Reads (Some v) x a (record { took = t; ready = y; shown = w }))
+    sent_first : Moves e a (record a { node = (take a.node).node; sent = (a.sent ++ (take a.node).sent) ++ g ∷ []; life = with_state a.me.inc (taken_left a.setup a.life x) a.life })
+    sent_first = subst (λ s. Moves e a (record a { node = (take a.node).node; sent = s; life = with_state a.me.inc (taken_left a.setup a.life x) a.life })) eq (Reads (Some v) x a (record { took = t; ready = y; shown = w }))
 
 -- ---- an entry taken
 
@@ -138,6 +139,17 @@ no_arrival : (b : Bool) → (b && false) ≡ false
 no_arrival true = refl
 no_arrival false = refl
 
+-- what has another effect than Plain is no exit
+exit_plain : (i : Inc) (w : What) (f : Effect) → (f ≡ Plain → ⊥) → is_exit i w f ≡ false
+exit_plain i Noop f n = refl
+exit_plain i (Add j) f n = refl
+exit_plain i (Says z) f n = refl
+exit_plain i (Remove j) Plain n = absurd (n refl)
+exit_plain i (Remove j) Void n = refl
+exit_plain i (Remove j) Unread n = refl
+exit_plain i (Remove j) (Positive g) n = refl
+exit_plain i (Remove j) (Conflict g) n = refl
+
 -- one entry taken by a member that takes slots
 module _ (e : Event) (a : Member) (x : Taken) (p : ℕ) (b : Bool) (t : (take a.node).took ≡ x ∷ []) (y : takes_slots a.life ≡ true) (k : x.kept ≡ KeptAt p b) where
   abbrev entry : Entry
@@ -149,17 +161,21 @@ module _ (e : Event) (a : Member) (x : Taken) (p : ℕ) (b : Bool) (t : (take a.
   left : taken_left a.setup a.life x ≡ Took entry
   left = ap (λ r. slot_left a.setup a.life x.slot x.value r) k
 
-  rise_if : (c : Bool) → is_arrival_of a.me.inc entry ≡ c → with_rise a.me.inc (Took entry) a.life ≡ elim c [ true ↦ Is Online OwnOnline ∷ Took entry ∷ a.life | false ↦ Took entry ∷ a.life ]
-  rise_if c h = ap (λ b. elim b [ true ↦ Is Online OwnOnline ∷ Took entry ∷ a.life | false ↦ Took entry ∷ a.life ]) h
+  -- the own state that comes with it
+  state_if : (c d : Bool) → is_arrival_of a.me.inc entry ≡ c → is_exit_of a.me.inc entry ≡ d → with_state a.me.inc (Took entry) a.life ≡ own_state c d entry a.life
+  state_if c d h g = λ k. own_state (h k) (g k) entry a.life
+
+  comes_with : (c d : Bool) → is_arrival_of a.me.inc entry ≡ c → is_exit_of a.me.inc entry ≡ d → Moves e a (record (by_node take a) { life = own_state c d entry a.life })
+  comes_with c d h g = subst (λ l. Moves e a (record (by_node take a) { life = l })) (ap (λ z. with_state a.me.inc z a.life) left ∙ state_if c d h g) (reads_plainly e a x t y)
 
   -- ---- an own Online entry, or another's
 
-  arrived : (c : Bool) → is_arrival_of a.me.inc entry ≡ c → Moves e a (elim c [ true ↦ push (Is Online OwnOnline) with_entry | false ↦ with_entry ])
-  arrived true h = subst (λ l. Moves e a (record (by_node take a) { life = l })) (ap (λ d. with_rise a.me.inc d a.life) left ∙ rise_if true h) (reads_plainly e a x t y)
-  arrived false h = subst (λ l. Moves e a (record (by_node take a) { life = l })) (ap (λ d. with_rise a.me.inc d a.life) left ∙ rise_if false h) (reads_plainly e a x t y)
+  arrived : is_exit_of a.me.inc entry ≡ false → (c : Bool) → is_arrival_of a.me.inc entry ≡ c → Moves e a (elim c [ true ↦ push (Is Online OwnOnline) with_entry | false ↦ with_entry ])
+  arrived g true h = comes_with true false h g
+  arrived g false h = comes_with false false h g
 
   moves_arrival : (set : Gtids) (z : List ℕ) → entry.holds ≡ Some (Arrives set) → x.value.what ≡ Says z → Moves e a (causes entry entry.effect with_entry)
-  moves_arrival set z h w = subst (λ m. Moves e a m) (sym same) (arrived (inc_eq x.value.id.origin a.me.inc) is_it)
+  moves_arrival set z h w = subst (λ m. Moves e a m) (sym same) (arrived (ap (λ u. is_exit a.me.inc u entry.effect) w) (inc_eq x.value.id.origin a.me.inc) is_it)
     where
       plain : entry.effect ≡ Plain
       plain = subst (λ o. effect_of a.setup a.life b x.value (open_parts a.life x.value.id.origin) o ≡ Plain) (sym h) (subst (λ u. effect_in (view a.setup a.life) b u (Some (Arrives set)) ≡ Plain) (sym w) refl)
@@ -173,24 +189,28 @@ module _ (e : Event) (a : Member) (x : Taken) (p : ℕ) (b : Bool) (t : (take a.
   -- ---- any other entry
 
   module _ (other : is_arrival entry.holds ≡ false) where
-    stays : with_rise a.me.inc (Took entry) a.life ≡ Took entry ∷ a.life
-    stays = rise_if false (ap (λ c. inc_eq x.value.id.origin a.me.inc && c) other ∙ no_arrival (inc_eq x.value.id.origin a.me.inc))
+    no_arrival_here : is_arrival_of a.me.inc entry ≡ false
+    no_arrival_here = ap (λ c. inc_eq x.value.id.origin a.me.inc && c) other ∙ no_arrival (inc_eq x.value.id.origin a.me.inc)
 
-    taken : Moves e a with_entry
-    taken = reads_one e a x (Took entry) t y left stays
+    stays : is_exit_of a.me.inc entry ≡ false → with_state a.me.inc (Took entry) a.life ≡ Took entry ∷ a.life
+    stays g = state_if false false no_arrival_here g
 
-    falls : (z : Bool) → Moves e with_entry (elim z [ true ↦ fall Removed with_entry | false ↦ with_entry ])
-    falls true = moves_fall e Removed with_entry
-    falls false = Stays with_entry
+    taken : is_exit_of a.me.inc entry ≡ false → Moves e a with_entry
+    taken g = comes_with false false no_arrival_here g
+
+    -- the own Remove
+    falls : (z : Bool) → is_exit_of a.me.inc entry ≡ z → Moves e a (elim z [ true ↦ fall Removed with_entry | false ↦ with_entry ])
+    falls true g = Then (comes_with false true no_arrival_here g) (moves_fallen e Removed with_entry)
+    falls false g = taken g
 
     in_effect : b ≡ true → takes_effect x.kept ≡ true
     in_effect z = ap takes_effect k ∙ z
 
     -- a member that is ONLINE sends a joiner a Welcome
-    moves_greeting : (j : Joiner) → takes_effect x.kept ≡ true → x.value.what ≡ Add j → (c : Bool) → (is_up (state with_entry.life) && not (inc_eq j.inc with_entry.me.inc)) ≡ c →
+    moves_greeting : (j : Joiner) → takes_effect x.kept ≡ true → is_exit_of a.me.inc entry ≡ false → x.value.what ≡ Add j → (c : Bool) → (is_up (state with_entry.life) && not (inc_eq j.inc with_entry.me.inc)) ≡ c →
         Moves e a (elim c [ true ↦ greet_by j.inc (take a.node).node.turns with_entry | false ↦ with_entry ])
-    moves_greeting j w z false h = taken
-    moves_greeting j w z true h = go (take a.node).node.turns refl
+    moves_greeting j w n z false h = taken n
+    moves_greeting j w n z true h = go (take a.node).node.turns refl
       where
         v : Shown
         v = shown (view a.setup with_entry.life)
@@ -199,8 +219,8 @@ module _ (e : Event) (a : Member) (x : Taken) (p : ℕ) (b : Bool) (t : (take a.
         is_shown = subst (λ d. (is_up (state (d ∷ a.life)) ≡ true) × (v ≡ shown (view a.setup (d ∷ a.life)))) (sym left) ((and_parts (is_up (state with_entry.life)) _ h).0, refl)
 
         go : (o : Option Turns) → (take a.node).node.turns ≡ o → Moves e a (greet_by j.inc o with_entry)
-        go None f = taken
-        go (Some u) f = sends_greeting e a x v (message (take a.node).node j.inc (Greet (welcome_of (take a.node).node u v))) (Took entry) left stays t y is_shown (greets_one v u (take a.node).node x j w z f)
+        go None f = taken n
+        go (Some u) f = sends_greeting e a x v (message (take a.node).node j.inc (Greet (welcome_of (take a.node).node u v))) (Took entry) left (stays n) t y is_shown (greets_one v u (take a.node).node x j w z f)
 
     on_noop : (h : Option Body) → is_arrival h ≡ false → Moves e with_entry (on_plain x.value.id.origin Noop h with_entry)
     on_noop None q = Stays with_entry
@@ -227,21 +247,27 @@ module _ (e : Event) (a : Member) (x : Taken) (p : ℕ) (b : Bool) (t : (take a.
     moves_plain : entry.effect ≡ Plain → Moves e a (on_plain x.value.id.origin x.value.what entry.holds with_entry)
     moves_plain f = go x.value.what refl
       where
+        no_exit : (w : What) → x.value.what ≡ w → is_exit a.me.inc w entry.effect ≡ false → is_exit_of a.me.inc entry ≡ false
+        no_exit w q n = ap (λ u. is_exit a.me.inc u entry.effect) q ∙ n
+
         go : (w : What) → x.value.what ≡ w → Moves e a (on_plain x.value.id.origin w entry.holds with_entry)
-        go (Add j) q = moves_greeting j (in_effect (add_plain a x.slot p b x.value j q f)) q (is_up (state with_entry.life) && not (inc_eq j.inc with_entry.me.inc)) refl
-        go (Remove i) q = Then taken (falls (inc_eq i a.me.inc))
-        go Noop q = Then taken (on_noop entry.holds other)
-        go (Says z) q = Then taken (on_body z entry.holds other)
+        go (Add j) q = moves_greeting j (in_effect (add_plain a x.slot p b x.value j q f)) (no_exit (Add j) q refl) q (is_up (state with_entry.life) && not (inc_eq j.inc with_entry.me.inc)) refl
+        go (Remove i) q = falls (inc_eq i a.me.inc) (ap (λ u. is_exit a.me.inc u entry.effect) q ∙ ap (is_exit a.me.inc (Remove i)) f)
+        go Noop q = Then (taken (no_exit Noop q refl)) (on_noop entry.holds other)
+        go (Says z) q = Then (taken (no_exit (Says z) q refl)) (on_body z entry.holds other)
 
     moves_other : Moves e a (causes entry entry.effect with_entry)
     moves_other = go entry.effect refl
       where
+        none : (f : Effect) → entry.effect ≡ f → (f ≡ Plain → ⊥) → is_exit_of a.me.inc entry ≡ false
+        none f h n = ap (is_exit a.me.inc x.value.what) h ∙ exit_plain a.me.inc x.value.what f n
+
         go : (f : Effect) → entry.effect ≡ f → Moves e a (causes entry f with_entry)
         go Plain h = moves_plain h
-        go Void h = taken
-        go Unread h = taken
-        go (Positive g) h = taken
-        go (Conflict g) h = Then taken (moves_on_conflict e entry g with_entry h (a.life, inl refl))
+        go Void h = taken (none Void h (λ q. absurd (cc q)))
+        go Unread h = taken (none Unread h (λ q. absurd (cc q)))
+        go (Positive g) h = taken (none (Positive g) h (λ q. absurd (cc q)))
+        go (Conflict g) h = Then (taken (none (Conflict g) h (λ q. absurd (cc q)))) (moves_on_conflict e entry g with_entry h (a.life, inl refl))
 
   moves_kept : Moves e a (take_kept x.slot x.value (KeptAt p b) (by_node take a))
   moves_kept = go entry.holds refl

@@ -1,6 +1,6 @@
 -- What each thing that is left in a history asks of the history before it: the tests that a member makes before it leaves it.
 -- `l` is the history before, of the incarnation `i`; `e` is the event of the step.
-use Rattle.std.specs.Prelude.{◌≡◌, ◌⊎◌, ◌≤◌, ◌<◌, ℕ, suc, Bool, true, false, ◌&&◌, not, Option, Some, None, List, [], ◌∷◌, ◌++◌, length, reverse, filter, nat_le, ◌==◌}
+use Rattle.std.specs.Prelude.{◌≡◌, ◌⊎◌, ◌≤◌, ◌<◌, ℕ, suc, Bool, true, false, ◌&&◌, ◌||◌, not, Option, Some, None, List, [], ◌∷◌, ◌++◌, length, reverse, filter, nat_le, ◌==◌}
 use Rattle.gr_ids.specs.Names.{inc_eq, is_inc}
 use Rattle.gtid_sets.specs.Sets.{Gtids, minus, with_gtid}
 use Rattle.slot_values.specs.declared.kept.Kept.{Kept}
@@ -15,7 +15,8 @@ use Rattle.gr_ids.specs.declared.levels.MemberState.{MemberState}
 use Rattle.gr_ids.specs.declared.levels.MemberState.TheVariants.{Online, Error}
 use Rattle.key_items.specs.declared.change.Change.{Change}
 use Rattle.slot_values.specs.declared.value.Value.{Value}
-use Rattle.slot_values.specs.declared.value.What.TheVariants.{Body as Says}
+use Rattle.slot_values.specs.declared.value.What.{What}
+use Rattle.slot_values.specs.declared.value.What.TheVariants.{Remove, Body as Says}
 use Rattle.txn_forms.specs.declared.body.Txn.{Txn}
 use Rattle.txn_forms.specs.declared.body.Part.{Part}
 use Rattle.txn_forms.specs.declared.body.Body.{Body}
@@ -28,8 +29,9 @@ use Rattle.paxos_forms.specs.declared.recovery.Give.{Give}
 use Rattle.group_rules.specs.declared.requests.Request.TheVariants.{Begin}
 use Rattle.group_rules.specs.declared.answers.Answer.{Answer}
 use Rattle.group_rules.specs.declared.answers.Answer.TheVariants.{Committed as CommittedAs}
-use Rattle.group_rules.specs.declared.marks.Cause.TheVariants.{OwnOnline}
-use Rattle.group_rules.specs.declared.marks.Effect.TheVariants.{Conflict as Conflicts}
+use Rattle.group_rules.specs.declared.marks.Cause.TheVariants.{OwnOnline, Removed}
+use Rattle.group_rules.specs.declared.marks.Effect.{Effect}
+use Rattle.group_rules.specs.declared.marks.Effect.TheVariants.{Plain, Conflict as Conflicts}
 use Rattle.group_rules.specs.declared.marks.Reply.{Reply}
 use Rattle.group_rules.specs.declared.marks.Reply.TheVariants.{Asked}
 use Rattle.txn_forms.specs.Bodies.{body_bytes}
@@ -237,14 +239,28 @@ taken_left s l x = slot_left s l x.slot x.value x.kept
 abbrev pub is_arrival_of : Inc → Entry → Bool
 is_arrival_of i e = inc_eq e.value.id.origin i && is_arrival e.holds
 
--- an incarnation that takes its own Online entry comes ONLINE at once
-abbrev pub with_rise : Inc → Did → Life → Life
-with_rise i (Took e) l = elim (is_arrival_of i e) [ true ↦ Is Online OwnOnline ∷ Took e ∷ l | false ↦ Took e ∷ l ]
-with_rise i d l = d ∷ l
+-- the own Remove, with effect
+abbrev pub is_exit : Inc → What → Effect → Bool
+is_exit i (Remove j) Plain = inc_eq j i
+is_exit i w f = false
+
+abbrev pub is_exit_of : Inc → Entry → Bool
+is_exit_of i e = is_exit i e.value.what e.effect
+
+abbrev pub own_state : Bool → Bool → Entry → Life → Life
+own_state arrives exits e l = elim arrives [
+  | true ↦ Is Online OwnOnline ∷ Took e ∷ l
+  | false ↦ elim exits [ true ↦ Is Error Removed ∷ Took e ∷ l | false ↦ Took e ∷ l ]
+]
+
+-- an incarnation that takes its own Online entry comes ONLINE at once, one that takes its own Remove takes ERROR
+abbrev pub with_state : Inc → Did → Life → Life
+with_state i (Took e) l = own_state (is_arrival_of i e) (is_exit_of i e) e l
+with_state i d l = d ∷ l
 
 -- Between what an incarnation takes and the own state that comes with it nothing else is left.
 abbrev pub is_settled : Inc → Life → Bool
-is_settled i (Took e ∷ l) = not (is_arrival_of i e)
+is_settled i (Took e ∷ l) = not (is_arrival_of i e || is_exit_of i e)
 is_settled i (Enters w ∷ l) = false
 is_settled i l = true
 

@@ -26,7 +26,7 @@ use Rattle.group_rules.specs.View.{shown}
 use Rattle.group_rules.specs.Member.{Member, push, send, by_node, at_node}
 use Rattle.group_rules.specs.Taking.{takes_slots}
 use Rattle.group_rules.specs.Steps.{step}
-use Rattle.group_bridge.specs.Left.{IsLeft, IsMade, IsEntered, is_settled, IsAfterAll, IsSent, is_arrival_of, taken_left, with_rise}
+use Rattle.group_bridge.specs.Left.{IsLeft, IsMade, IsEntered, is_settled, IsAfterAll, IsSent, is_arrival_of, taken_left, with_state}
 
 -- messages that aren't the node's: an Ask, a Give, and the Add of a joiner
 abbrev pub is_apart : Wire → Bool
@@ -59,7 +59,7 @@ pub record IsRead (a : Member) (x : Taken) (greets : Option Shown) : Type 0 wher
 
 -- the member whose node has taken the slot, with what it leaves
 abbrev pub reads : Option Shown → Taken → Member → Member
-reads g x a = record (acts (Takes g) a) { life = with_rise a.me.inc (taken_left a.setup a.life x) a.life }
+reads g x a = record (acts (Takes g) a) { life = with_state a.me.inc (taken_left a.setup a.life x) a.life }
 
 -- One thing after another, in a step for the event e.
 pub data Moves (e : Event) : Member → Member → Type 0 where
