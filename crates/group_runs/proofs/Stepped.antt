@@ -263,10 +263,10 @@ module _ (t : Setup) (w : World) (v : nodes.World) (inv : Inv t w v) (number : �
   made_here : (u : Value) (rest : Life) → u.id.origin ≡ i → (holds : Option Body) × In (Made u holds) (rest ++ g.life) → WasMade (dids i rest ++ w.past) u
   made_here u rest o h = (h.0, subst (λ z. In (Does z (Made u h.0)) (dids i rest ++ w.past)) (sym o) (in_life i (Made u h.0) (dids i rest ++ w.past) (subst (λ l. In (Made u h.0) l) (sym (life_here rest)) h.1)))
 
-  made_by_acts : (l : List nodes.Act) (rest : Life) → ((u : Value) → In u (nodes.all_made_by i l) → (holds : Option Body) × In (Made u holds) (rest ++ g.life)) → (u : Value) → In u (v.made ++ nodes.all_made_by i l) → (u.id.number ≡ 0) ⊎ WasMade (dids i rest ++ w.past) u
+  made_by_acts : (l : List nodes.Act) (rest : Life) → ((u : Value) → In u (nodes.all_made_by i l) → (holds : Option Body) × In (Made u holds) (rest ++ g.life)) → (u : Value) → In u (v.made ++ nodes.all_made_by i l) → WasMade (dids i rest ++ w.past) u
   made_by_acts l rest k u h = elim (in_either u v.made (nodes.all_made_by i l) h) [
-    | inl z ↦ elim (inv.made u z) [ inl y ↦ inl y | inr y ↦ inr (made_grows (dids i rest) w.past u y) ]
-    | inr z ↦ inr (made_here u rest (all_made_own i l u z) (k u z))
+    | inl z ↦ made_grows (dids i rest) w.past u (inv.made u z)
+    | inr z ↦ made_here u rest (all_made_own i l u z) (k u z)
   ]
 
   -- ---- slots
