@@ -36,7 +36,7 @@ use Rattle.group_order.proofs.Steps.{SlotTaken, Steps}
 use Rattle.group_order.proofs.Flips.{flip, flip_length, read_flip, take_flip, before_length}
 use Rattle.group_order.proofs.Logs.{LogOf, the_log, shorter, left_all}
 use Rattle.group_order.proofs.Shapes.{Shape, shapes, takes_after}
-use Rattle.group_order.proofs.Incs.{inc_same, inc_is}
+use Rattle.node_rules.proofs.Incs.{inc_same, inc_is}
 use Rattle.group_order.proofs.Adds.{added_once}
 use Rattle.group_order.proofs.Spans.{Last, Span, spans}
 use Rattle.group_order.proofs.Nexts.{did_past, done_at, last_done, EnteredBy, entered_by, WelcomeAt, IsNext, all_next}

@@ -17,7 +17,8 @@ use Rattle.order_laws.specs.Laws.{slots_by}
 use Rattle.group_rules.specs.Events.{Setup}
 use Rattle.group_rules.specs.Steps.{group_of}
 use Rattle.group_runs.specs.Runs.{as_sent, IsNodeRun}
-use Rattle.group_runs.proofs.Pasts.{inc_same, inc_is, in_either}
+use Rattle.node_rules.proofs.Incs.{inc_same, inc_is}
+use Rattle.group_runs.proofs.Pasts.{in_either}
 
 run_more : (f : List Message → List Message) (g : Group) (es : List Event) (e : Event) (w : World) → run_from f g (es ++ e ∷ []) w ≡ happens f g (run_from f g es w) e
 run_more f g [] e w = refl

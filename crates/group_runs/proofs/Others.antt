@@ -17,7 +17,8 @@ use Rattle.group_rules.specs.Steps.{group_of, start}
 use Rattle.group_rules.specs.World.{World, Server, Past, Does, Writes, Halts, life_in, nothing_stored, server_at, is_declared, joiner_of, put_server, nothing_happens, dids, declare, started, stop, stored_by, written}
 use Rattle.group_bridge.specs.Moves.{is_apart, slots_in}
 use Rattle.group_runs.specs.Runs.{as_sent, is_founder, running_in, stored_after, stored_in, WasSent, HeardIn}
-use Rattle.group_runs.proofs.Pasts.{inc_same, inc_is, in_left, in_either, life_of_dids, life_of_others, running_of_others, made_grows, did_map}
+use Rattle.node_rules.proofs.Incs.{inc_same, inc_is}
+use Rattle.group_runs.proofs.Pasts.{in_left, in_either, life_of_dids, life_of_others, running_of_others, made_grows, did_map}
 use Rattle.group_runs.proofs.Servers.{at_number, put_same, put_other, put_cases, number_of}
 use Rattle.group_runs.proofs.Nodes.{one_more, put_here, put_there, started_on}
 use Rattle.group_runs.proofs.Inv.{inc_of, IsRunning, WasStarted, Inv}

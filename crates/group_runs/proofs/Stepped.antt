@@ -29,7 +29,8 @@ use Rattle.group_rules.specs.Legal.{IsPast, WasMade}
 use Rattle.group_bridge.specs.Left.{is_settled, IsAfterAll, IsSent, taken_left}
 use Rattle.group_bridge.specs.Moves.{is_apart, is_ask_or_give, slots_in, Each, IsAllowed, TookBy, TookRightly, SentBy, GreetedBy, IsActs, StepIsActs, cleared}
 use Rattle.group_runs.specs.Runs.{as_sent, running_in, stored_in, WasGreeted, WasTold, WasSentAs, WasSent, AllDid, IsActive, IsDone, IsNodeRun, TookIn, TookThen, OfSlots, HeardIn}
-use Rattle.group_runs.proofs.Pasts.{inc_is, take_more, in_left, in_right, in_either, in_map, life_of_dids, life_of_others, running_of_dids, running_of_others, past_of_more, past_grows, made_grows, did_map, did_more}
+use Rattle.node_rules.proofs.Incs.{inc_is}
+use Rattle.group_runs.proofs.Pasts.{take_more, in_left, in_right, in_either, in_map, life_of_dids, life_of_others, running_of_dids, running_of_others, past_of_more, past_grows, made_grows, did_map, did_more}
 use Rattle.group_runs.proofs.Servers.{put_same, put_other, put_cases, number_of}
 use Rattle.group_runs.proofs.Nodes.{one_more, acted_on, heard_on, index_of, put_here, put_there, all_made_own, slots_of_one, slots_of_other}
 use Rattle.group_runs.proofs.Inv.{inc_of, IsRunning, WasStarted, Inv}
