@@ -107,9 +107,6 @@ module _ (m : Inc) (f : Seat → Bool) (named : (s : Seat) → f s ≡ true → 
       go true true false p q r k = absurd (false≢true (sym r ∙ ap (λ (z : Inc). inc_eq z m) (sym (inc_is s.joiner.inc i p)) ∙ named s q))
       go true false false p q r k = rw (p, q, r) (k ∙ ap (λ (z : Bool). cond z false (list_any f ss)) r)
       go false true true p q r k = absurd (false≢true (sym p ∙ ap (λ (z : Inc). inc_eq z i) (inc_is s.joiner.inc m (named s q)) ∙ ap (λ (z : Inc). inc_eq z i) (sym (inc_is i m r)) ∙ inc_same i))
-        where
-          itself : (z : Inc) → inc_eq z z ≡ true
-          itself z = inc_same z
       go false false true p q r k = rw (p, q, r) (k ∙ ap (λ (z : Bool). cond z false (list_any f ss)) r)
       go false b false p q r k = rw (p, q, r) (ap (λ (z : Bool). b || z) (k ∙ ap (λ (z : Bool). cond z false (list_any f ss)) r))
 
