@@ -10,7 +10,8 @@ use Rattle.gr_ids.specs.declared.names.LastNumber.{LastNumber}
 use Rattle.gr_ids.specs.Names.{inc_eq, inc_lt}
 use Rattle.group_rules.specs.Certifier.{last_of, with_last}
 use Rattle.certifier.specs.Certifying.{numbers_told}
-use Rattle.certifier.specs.Inside.{inc_cmp, last_in}
+use Rattle.certifier.specs.Inside.{last_in}
+use Rattle.node_rules.specs.Order.{inc_cmp}
 use Rattle.certifier.proofs.LastMaps.{reads}
 
 abbrev AreBelow : ℕ → List LastNumber → Type 0

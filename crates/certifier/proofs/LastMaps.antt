@@ -10,8 +10,10 @@ use Rattle.gr_ids.specs.declared.names.Inc.{Inc}
 use Rattle.gr_ids.specs.declared.names.LastNumber.{LastNumber}
 use Rattle.gr_ids.specs.Names.{inc_eq, inc_lt}
 use Rattle.group_rules.specs.Certifier.{last_of, numbers_of, with_last}
-use Rattle.certifier.specs.Inside.{inc_cmp, last_in}
-use Rattle.certifier.proofs.IncOrder.{inc_lt_cmp, inc_eq_cmp, inc_eq_back, same_inc}
+use Rattle.certifier.specs.Inside.{last_in}
+use Rattle.node_rules.specs.Order.{inc_cmp}
+use Rattle.node_rules.proofs.Incs.{inc_is}
+use Rattle.node_rules.proofs.IncOrder.{inc_lt_cmp, inc_eq_cmp, inc_eq_back}
 
 abbrev pub Entries : Type 0
 Entries = List (Inc × ℕ)
@@ -33,7 +35,7 @@ inserted (e ∷ es) i n = go (inc_cmp i e.0) refl (inserted es i n)
     go Equal f r =
         let l : inc_lt i e.0 ≡ false = inc_lt_cmp i e.0 ∙ ap is_lt f in
         let u : inc_eq i e.0 ≡ true = inc_eq_cmp i e.0 ∙ ap is_eq f in
-        rw (l, with_last, u, f) (ap (λ k. last_in (k, n) ∷ map last_in es) (sym (same_inc i e.0 u)))
+        rw (l, with_last, u, f) (ap (λ k. last_in (k, n) ∷ map last_in es) (sym (inc_is i e.0 u)))
     go Greater f r =
         let l : inc_lt i e.0 ≡ false = inc_lt_cmp i e.0 ∙ ap is_lt f in
         let u : inc_eq i e.0 ≡ false = inc_eq_cmp i e.0 ∙ ap is_eq f in

@@ -1,4 +1,3 @@
-pub mod IncOrder
 pub mod LastMaps
 pub mod ItemMaps
 pub mod FirstBlocker

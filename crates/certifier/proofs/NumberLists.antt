@@ -9,9 +9,9 @@ use Rattle.gr_ids.specs.declared.names.LastNumber.{LastNumber}
 use Rattle.gr_ids.specs.Names.{inc_eq, inc_lt}
 use Rattle.group_rules.specs.Certifier.{with_last}
 use Rattle.certifier.specs.Certifying.{numbers_told}
-use Rattle.certifier.specs.Inside.{inc_cmp}
+use Rattle.node_rules.specs.Order.{inc_cmp}
 use Rattle.certifier.specs.Laws.{NumbersAscend}
-use Rattle.certifier.proofs.IncOrder.{inc_cmp_total, inc_eq_cmp, inc_lt_cmp}
+use Rattle.node_rules.proofs.IncOrder.{inc_cmp_total, inc_eq_cmp, inc_lt_cmp}
 
 is_less : (o : Ordering) → is_lt o ≡ true → o ≡ Less
 is_less Less e = refl

@@ -15,8 +15,10 @@ use Rattle.txn_forms.specs.declared.body.Txn.{Txn}
 use Rattle.group_rules.specs.Certifier.{blocker, next_gtid, number_after, opens_block, with_last, written_by}
 use Rattle.certifier.specs.Blockers.{writer_of}
 use Rattle.certifier.specs.Certifying.{Certifying, limits_of, with_txn}
-use Rattle.certifier.specs.Inside.{IsSound, inc_cmp}
-use Rattle.certifier.proofs.IncOrder.{inc_cmp_total, inc_eq_cmp, same_inc}
+use Rattle.certifier.specs.Inside.{IsSound}
+use Rattle.node_rules.specs.Order.{inc_cmp}
+use Rattle.node_rules.proofs.Incs.{inc_is}
+use Rattle.node_rules.proofs.IncOrder.{inc_cmp_total, inc_eq_cmp}
 
 pub no_blocker : (o : Option KeptItem) → option_map writer_of o ≡ None → o ≡ None
 no_blocker None e = refl
@@ -95,7 +97,7 @@ sound_with b q p es fs m n s put l k = record { least = s.least; most = s.most; 
 pub undone : (i : Inc) (was mid now : BTreeMap Inc ℕ) (n : ℕ) (before : Option ℕ) → before ≡ get inc_cmp was i → Updates inc_cmp was mid i (Some n)
     → ((IsSome before → IsSome (get inc_cmp mid i)) → (q : Inc) → get inc_cmp now q ≡ cond (is_eq (inc_cmp i q)) before (get inc_cmp mid q))
     → IsOrdered inc_cmp was → IsOrdered inc_cmp now → now.entries ≡ was.entries
-undone i was mid now n before e u b o p = btree_map_from_get inc_cmp_total now was p o at (λ x y t. same_inc x y (inc_eq_cmp x y ∙ ap is_eq t))
+undone i was mid now n before e u b o p = btree_map_from_get inc_cmp_total now was p o at (λ x y t. inc_is x y (inc_eq_cmp x y ∙ ap is_eq t))
   where
     here : (q : Inc) → get inc_cmp now q ≡ cond (is_eq (inc_cmp i q)) before (get inc_cmp mid q)
     here = b (λ s. ap is_some u.1)
@@ -106,6 +108,6 @@ undone i was mid now n before e u b o p = btree_map_from_get inc_cmp_total now w
         go : (v : Bool) → is_eq (inc_cmp i q) ≡ v → get inc_cmp now q ≡ cond (is_eq (inc_cmp i q)) before (get inc_cmp mid q)
             → get inc_cmp mid q ≡ cond (is_at (inc_cmp i) q) (Some n) (get inc_cmp was q) → get inc_cmp now q ≡ get inc_cmp was q
         go true f h k =
-            let same : i ≡ q = same_inc i q (inc_eq_cmp i q ∙ f) in
+            let same : i ≡ q = inc_is i q (inc_eq_cmp i q ∙ f) in
             h ∙ (ap (λ c. cond c before (get inc_cmp mid q)) f ∙ (e ∙ ap (get inc_cmp was) same))
         go false f h k = h ∙ (ap (λ c. cond c before (get inc_cmp mid q)) f ∙ (k ∙ ap (λ c. cond c (Some n) (get inc_cmp was q)) f))

@@ -14,12 +14,9 @@ use Rattle.gr_ids.specs.declared.names.LastNumber.{LastNumber}
 use Rattle.key_items.specs.declared.item.Item.{Item}
 use Rattle.key_items.specs.declared.item.KeptItem.{KeptItem}
 use Rattle.key_items.specs.Items.{has_item}
+use Rattle.node_rules.specs.Order.{inc_cmp}
 use Rattle.certifier.specs.declared.writer.Writer.{Writer}
 use Rattle.certifier.specs.Certifying.{Certifying}
-
--- by server, then start
-abbrev pub inc_cmp : Inc → Inc → Ordering
-inc_cmp a b = ordering_then (nat_cmp a.server b.server) (nat_cmp a.start b.start)
 
 -- by table, then key, as bytes
 abbrev pub item_cmp : Item → Item → Ordering

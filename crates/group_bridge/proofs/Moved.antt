@@ -60,6 +60,7 @@ use Rattle.group_rules.specs.Calls.{begin, send_sync, change_row, unless_locked,
 use Rattle.group_rules.specs.Welcomes.{hear_welcome}
 use Rattle.node_rules.specs.Welcoming.{is_in_order, is_for}
 use Rattle.node_rules.specs.Lists.{In}
+use Rattle.node_rules.proofs.Incs.{inc_same}
 use Rattle.group_rules.specs.Recovery.{is_ask_due, is_awaited, is_possible, add_place, fail_ask, check_donor, check_ask, unless_self, ask_wire, ask_donor, donor_failed, give_at, restore, take_give, hear_give, pending_ask, certs_given}
 use Rattle.group_rules.specs.Points.{asks_this, commit_all, prepare_all, begin_all, arrive, point, commit_one, answer_own, answer_commit, prepare_one, begin_one, begin_by, unless_pending}
 use Rattle.group_rules.specs.Taking.{answer_conflict, on_conflict, propose}
@@ -67,9 +68,6 @@ use Rattle.group_rules.specs.Steps.{hear_add, done_of, time_out, time_out_by, ex
 use Rattle.group_bridge.specs.Left.{IsPast, IsOver, Fallen, Refused, Settled, IsEnded, Unasked, WasKilled, WasLeft, Over, IsOpen, txn_then, MadeParts, HoldsRightly, with_all, AreOf, IsAnswered, IsEntered, IsRestored}
 use Rattle.group_bridge.specs.Moves.{Moves, Stays, Leaves, Sends, Acts, Makes, Welcomes, Then}
 use Rattle.group_bridge.proofs.Lists.{in_left, in_right, in_either}
-
-inc_same : (i : Inc) → inc_eq i i ≡ true
-inc_same i = and_from _ _ (eq-eqb i.server i.server refl) (eq-eqb i.start i.start refl)
 
 -- the message is what came last
 abbrev pub HeardLast : Message → Member → Type 0

@@ -13,7 +13,8 @@ use Rattle.group_laws.specs.Lawful.{LawfulBody, LawfulTook, LawfulCommit, Lawful
 use Rattle.group_laws.specs.World.{Happening, Does, Writes, World, life, adds, owned, Lawful, MadeBy, JointDid, Joint, IsKeptList, Founding, IsRun}
 use Rattle.group_laws.specs.Laws.{FreshList, Common, Closed}
 use Rattle.group_laws.proofs.Lists.{any_mem, any_from, IsPast-nil, IsPast-tail, IsPast-trans, IsPast-mem, AllPasts-here}
-use Rattle.group_laws.proofs.Names.{inc_eq_same, gtid_eq_same, bytes_eq_itself, item_eq_same}
+use Rattle.node_rules.proofs.Incs.{inc_is}
+use Rattle.group_laws.proofs.Names.{gtid_eq_same, bytes_eq_itself, item_eq_same}
 use Rattle.group_laws.proofs.Certs.{cons_keeps}
 use Rattle.group_laws.proofs.KeptIsScan.{kept_is_scan}
 use Rattle.group_laws.proofs.Scans.{scan_past, certified_mono, certified_back, positive_has, gtids_distinct, cert_source, cert_value, scan_place}
@@ -150,7 +151,7 @@ module _ (r : Setup) (k : List Value) (f : Founding r) (kept : IsKeptList r k) (
       go : (b : Bool) → inc_eq i m ≡ b → ListOk r k (Does i d ∷ w) (marked (life (Does i d ∷ w) m))
       go false e = rw e (list_more r k (Does i d) w (marked (life w m)) (old_list m))
       go true e =
-          let q : i ≡ m = inc_eq_same i m e in
+          let q : i ≡ m = inc_is i m e in
           let ok : ListOk r k w (marked (d ∷ life w m)) = subst (λ (y : Inc). ListOk r k w (marked (d ∷ life w y))) q (did_list d ld jd) in
           rw e (list_more r k (Does i d) w (marked (d ∷ life w m)) ok)
 
@@ -190,7 +191,7 @@ module _ (r : Setup) (k : List Value) (f : Founding r) (kept : IsKeptList r k) (
       go : (b : Bool) → inc_eq i m ≡ b → Closed r k (executed (life (Does i d ∷ w) m))
       go false e = subst (λ (v : Bool). Closed r k (executed (cond v (d ∷ life w m) (life w m)))) (sym e) (inv.closed_executed m)
       go true e =
-          let q : i ≡ m = inc_eq_same i m e in
+          let q : i ≡ m = inc_is i m e in
           let c : Closed r k (executed (d ∷ life w m)) = subst (λ (y : Inc). Closed r k (executed (d ∷ life w y))) q (did_executed d ld jd) in
           subst (λ (v : Bool). Closed r k (executed (cond v (d ∷ life w m) (life w m)))) (sym e) c
 
@@ -219,7 +220,7 @@ module _ (r : Setup) (k : List Value) (f : Founding r) (kept : IsKeptList r k) (
       go : (b : Bool) → inc_eq i m ≡ b → ready r m (life (Does i d ∷ w) m) ≡ true → (g : Gtid) → executed (life (Does i d ∷ w) m) g ≡ true → (c : Cert) × Mem c (certified r (marked (life (Does i d ∷ w) m))) × (c.gtid ≡ g)
       go false e = subst (λ (v : Bool). (ready r m (cond v (d ∷ life w m) (life w m)) ≡ true → (g : Gtid) → executed (cond v (d ∷ life w m) (life w m)) g ≡ true → (c : Cert) × Mem c (certified r (marked (cond v (d ∷ life w m) (life w m)))) × (c.gtid ≡ g))) (sym e) (inv.within m)
       go true e =
-          let q : i ≡ m = inc_eq_same i m e in
+          let q : i ≡ m = inc_is i m e in
           let y : ready r m (d ∷ life w m) ≡ true → (g : Gtid) → executed (d ∷ life w m) g ≡ true → (c : Cert) × Mem c (certified r (marked (d ∷ life w m))) × (c.gtid ≡ g) =
           subst (λ (y : Inc). ready r y (d ∷ life w y) ≡ true → (g : Gtid) → executed (d ∷ life w y) g ≡ true → (c : Cert) × Mem c (certified r (marked (d ∷ life w y))) × (c.gtid ≡ g)) q (did_within d ld) in
           subst (λ (v : Bool). (ready r m (cond v (d ∷ life w m) (life w m)) ≡ true → (g : Gtid) → executed (cond v (d ∷ life w m) (life w m)) g ≡ true → (c : Cert) × Mem c (certified r (marked (cond v (d ∷ life w m) (life w m)))) × (c.gtid ≡ g))) (sym e) y

@@ -14,14 +14,6 @@ bytes_eq_same as' bs h = (bytes_eq-Decides as' bs).0 h
 pub bytes_eq_itself : (as' : List ℕ) → bytes_eq as' as' ≡ true
 bytes_eq_itself as' = (bytes_eq-Decides as' as').1 refl
 
-pub inc_eq_same : (a b : Inc) → inc_eq a b ≡ true → a ≡ b
-inc_eq_same a b h =
-    let k = and_parts (eqb a.server b.server) (eqb a.start b.start) h in
-    λ i. record { server = eqb-true a.server b.server k.0 i; start = eqb-true a.start b.start k.1 i }
-
-pub inc_eq_itself : (a : Inc) → inc_eq a a ≡ true
-inc_eq_itself a = and_from (eqb a.server a.server) (eqb a.start a.start) (eqb-self a.server) (eqb-self a.start)
-
 pub gtid_eq_same : (a b : Gtid) → gtid_eq a b ≡ true → a ≡ b
 gtid_eq_same a b h =
     let k = and_parts (bytes_eq a.source b.source) (eqb a.number b.number) h in

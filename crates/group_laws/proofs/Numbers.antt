@@ -7,7 +7,7 @@ use Rattle.group_laws.specs.Names.{Inc, inc_eq}
 use Rattle.group_laws.specs.Entries.{Cert}
 use Rattle.group_laws.specs.Verdict.{last_of, blocks_taken, number_in}
 use Rattle.group_rules.specs.Certifier.{number_after, opens_block}
-use Rattle.group_laws.proofs.Names.{inc_eq_same, inc_eq_itself}
+use Rattle.node_rules.proofs.Incs.{inc_is, inc_same}
 use Rattle.group_laws.proofs.Lists.{newest_mem}
 
 abbrev pub num : Cert → ℕ
@@ -64,7 +64,7 @@ next_is b cs o n h = go (last_of o cs) refl
 
 -- the last of an origin is of that origin
 pub last_origin : (o : Inc) (cs : List Cert) (l : Cert) → last_of o cs ≡ Some l → Mem l cs × (l.origin ≡ o)
-last_origin o cs l h = let x = newest_mem (λ c. inc_eq c.origin o) cs l h in (x.0, inc_eq_same l.origin o x.1)
+last_origin o cs l h = let x = newest_mem (λ c. inc_eq c.origin o) cs l h in (x.0, inc_is l.origin o x.1)
 
 -- the next number is new
 pub next_new : (b : ℕ) (cs : List Cert) (o : Inc) (n : ℕ) → 0 < b → Drawn b cs → NextIs b cs o n → (c : Cert) → Mem c cs → num c ≡ n → ⊥
@@ -140,7 +140,7 @@ pub taken_same : (b : ℕ) (c : Cert) (cs : List Cert) → opens_block b (num c)
 taken_same b c cs e = rw e refl
 
 pub last_here : (o : Inc) (c : Cert) (cs : List Cert) → c.origin ≡ o → last_of o (c ∷ cs) ≡ Some c
-last_here o c cs e = let t : inc_eq c.origin o ≡ true = ap (λ x. inc_eq x o) e ∙ inc_eq_itself o in rw t refl
+last_here o c cs e = let t : inc_eq c.origin o ≡ true = ap (λ x. inc_eq x o) e ∙ inc_same o in rw t refl
 
 -- the last of an origin, in a list with one more
 pub last_cases : (o : Inc) (c l : Cert) (cs : List Cert) → last_of o (c ∷ cs) ≡ Some l → (c ≡ l) ⊎ ((c.origin ≡ o → ⊥) × (last_of o cs ≡ Some l))
@@ -150,7 +150,7 @@ last_cases o c l cs h = go (inc_eq c.origin o) refl
     go true e = inl (let h2 : Some c ≡ Some l = rw e at h in cc h2)
     go false e =
         let h2 : last_of o cs ≡ Some l = rw e at h in
-        inr ((λ p. both_ways (inc_eq c.origin o) e (ap (λ x. inc_eq x o) p ∙ inc_eq_itself o)), h2)
+        inr ((λ p. both_ways (inc_eq c.origin o) e (ap (λ x. inc_eq x o) p ∙ inc_same o)), h2)
 
 pub block_below : (b q n : ℕ) → 0 < b → 0 < n → n ≤ q * b → (n - 1) / b < q
 block_below b q n h p l = div_below (n - 1) b q h (omega arith)
@@ -254,7 +254,7 @@ module _ (b : ℕ) (h : 0 < b) (c : Cert) (cs : List Cert) (d : Drawn b cs) wher
 
               at_test : (inc_eq c.origin x.origin ≡ true) ⊎ (inc_eq c.origin x.origin ≡ false) → num x ≤ num k
               at_test (inl f) =
-                  let oo : x.origin ≡ c.origin = sym (inc_eq_same c.origin x.origin f) in
+                  let oo : x.origin ≡ c.origin = sym (inc_is c.origin x.origin f) in
                   let v = d.last x l t (ap (λ z. last_of z cs) oo ∙ lo) in omega (arith, u, v, e)
               at_test (inr f) = let w2 : last_of x.origin cs ≡ Some k = rw f at w in d.last x k t w2
           go (inr p) (inl t) = absurd (p.0 (ap (λ (z : Cert). z.origin) t))

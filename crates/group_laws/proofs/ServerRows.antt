@@ -11,7 +11,8 @@ use Rattle.group_laws.specs.Life.{Did, Started, Given, Made, Took, Finished, Com
 use Rattle.group_laws.specs.Lawful.{LawfulBody, LawfulCommit, LawfulDid}
 use Rattle.group_laws.specs.World.{Does, Writes, World, life, adds, owned, Lawful, JointDid, Joint, runs, AliveDid, Alive, Founding, cert_named, applied_some, stored_did, stored, offline_over}
 use Rattle.group_laws.proofs.Lists.{newest_mem, newest_none, AllPasts-here}
-use Rattle.group_laws.proofs.Names.{inc_eq_same, gtid_eq_same, gtid_eq_itself, bytes_eq_itself}
+use Rattle.node_rules.proofs.Incs.{inc_is}
+use Rattle.group_laws.proofs.Names.{gtid_eq_same, gtid_eq_itself, bytes_eq_itself}
 use Rattle.group_laws.proofs.Scans.{certified_mono, gtids_distinct, cert_source, cert_value}
 use Rattle.group_laws.proofs.Certs.{cons_keeps}
 use Rattle.group_laws.proofs.Lives.{unready, marked_more}
@@ -48,7 +49,7 @@ module _ (r : Setup) (k : List Value) where
           let x = rec h2 in rw e x
       go true e rec =
           let h2 : inc_eq i m ≡ true = subst (λ (b : Bool). cond b (inc_eq i m) (runs r w m) ≡ true) e h in
-          let q : i ≡ m = inc_eq_same i m h2 in
+          let q : i ≡ m = inc_is i m h2 in
           let j2 : JointDid k w m d = subst (λ (y : Inc). JointDid k w y d) q j.0 in
           let a2 : AliveDid r w m d = subst (λ (y : Inc). AliveDid r w y d) q a.0 in
           let x : (adds d g || owned w m.server g) ≡ executed (d ∷ life w m) g = runs_did w m d g j2 a2 rec in
@@ -80,7 +81,7 @@ known_more r i d w g l n = record { who = n.who; cert = n.cert; there = go (inc_
     go : (b : Bool) → inc_eq i n.who ≡ b → Mem n.cert (certified r (marked (life (Does i d ∷ w) n.who)))
     go false e = rw e n.there
     go true e =
-        let q : i ≡ n.who = inc_eq_same i n.who e in
+        let q : i ≡ n.who = inc_is i n.who e in
         let ld : LawfulDid r n.who (life w n.who) d = subst (λ (y : Inc). LawfulDid r y (life w y) d) q l.0 in
         let p = marked_more r n.who d (life w n.who) (lawful_life r w n.who l.1) ld in
         rw e (certified_past r (marked (life w n.who)) (marked (d ∷ life w n.who)) n.cert p n.there)

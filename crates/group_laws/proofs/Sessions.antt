@@ -14,7 +14,8 @@ use Rattle.group_laws.specs.Life.{Did, Started, Given, Made, Took, Finished, Com
 use Rattle.group_laws.specs.Lawful.{LawfulBody, LawfulCommit, LawfulDid, LawfulChange, Asks, Waits, Lost, is_done, rows_now, LawfulLife, IsNow, LawfulGiven, LawfulTook, LawfulMade}
 use Rattle.group_laws.specs.World.{Does, Writes, World, life, Lawful, MadeBy, Joint, IsRun, IsKeptList}
 use Rattle.group_laws.proofs.Lists.{any_from, IsPast-self, IsPast-tail, newest_mem, newest_none, AllPasts-at, any_mem, IsPast-trans}
-use Rattle.group_laws.proofs.Names.{inc_eq_same, gtid_eq_same, item_eq_itself, item_eq_same, eqb-self, inc_eq_itself}
+use Rattle.node_rules.proofs.Incs.{inc_is, inc_same}
+use Rattle.group_laws.proofs.Names.{gtid_eq_same, item_eq_itself, item_eq_same, eqb-self}
 use Rattle.group_laws.proofs.Scans.{certified_mono, positive_has, gtids_distinct, cert_value, scan_place, certified_back, CertValue}
 use Rattle.group_laws.proofs.Certs.{cons_keeps, same_place, cons_cases}
 use Rattle.group_laws.proofs.Lives.{unready, marked_more, executed_mono}
@@ -314,7 +315,7 @@ last_kept_mono r p (v ∷ k) m (inr h) l = go (inc_eq v.origin m) refl (last_kep
     go : (b : Bool) → inc_eq v.origin m ≡ b → last_kept p m ≤ last_kept k m → last_kept p m ≤ last_kept (v ∷ k) m
     go false e a = subst (λ (b : Bool). last_kept p m ≤ cond b v.number (last_kept k m)) (sym e) a
     go true e a =
-        let o : v.origin ≡ m = inc_eq_same v.origin m e in
+        let o : v.origin ≡ m = inc_is v.origin m e in
         let n : v.number ≡ suc (last_kept k v.origin) = l.0.0 in
         let q : last_kept k v.origin ≡ last_kept k m = ap (last_kept k) o in
         subst (λ (b : Bool). last_kept p m ≤ cond b v.number (last_kept k m)) (sym e) (omega (arith, a, n, q))
@@ -453,8 +454,8 @@ module _ (r : Setup) (k : List Value) (w : World) (run : IsRun r k w) (m : Inc) 
                   both_ways (executed (life a m) c.gtid) not-yet (executed_mono r m (life wi.past m) (life a m) c.gtid ll (life_past wi.past a m ba) h)
 
       by_origin : writes lc.cert ch.item ≡ true → (b : Bool) → inc_eq lc.cert.origin m ≡ b → ⊥
-      by_origin e true q = local e (inc_eq_same lc.cert.origin m q)
-      by_origin e false q = remote e (λ x. both_ways (inc_eq lc.cert.origin m) q (ap (λ (y : Inc). inc_eq y m) x ∙ inc_eq_itself m))
+      by_origin e true q = local e (inc_is lc.cert.origin m q)
+      by_origin e false q = remote e (λ x. both_ways (inc_eq lc.cert.origin m) q (ap (λ (y : Inc). inc_eq y m) x ∙ inc_same m))
 
   parts_own : (n : ℕ) (o : Inc) (id : ℕ) (b : Body) (u : Outcome) (c : Cert) → cert_parts r n o id b u ≡ Some c → (c.id ≡ id) × (c.origin ≡ o)
   parts_own n o id (Write t) (Positive x) c h =
@@ -706,7 +707,7 @@ module _ (r : Setup) (k : List Value) (w : World) (run : IsRun r k w) (m : Inc) 
       go : (b : Bool) → inc_eq i m ≡ b → Sessions r m (life a m) → Sessions r m (life (Does i d ∷ a) m)
       go false e z = subst (λ (b : Bool). Sessions r m (cond b (d ∷ life a m) (life a m))) (sym e) z
       go true e z =
-          let q : i ≡ m = inc_eq_same i m e in
+          let q : i ≡ m = inc_is i m e in
           let h2 : IsPast (Does m d ∷ a) w = subst (λ (y : Inc). IsPast (Does y d ∷ a) w) q h in
           let ld = (lawful_past r (Does m d ∷ a) w h2 run.lawful).0 in
           subst (λ (b : Bool). Sessions r m (cond b (d ∷ life a m) (life a m))) (sym e) (sess_did a d h2 ld z)

@@ -9,7 +9,7 @@ use Rattle.group_laws.specs.Entries.{Body, Write, Executed, Online, Joins, Leave
 use Rattle.group_laws.specs.View.{founders, Standing, Absent, Recovering, Active, Gone, on_join, on_online, on_leave, stands_after, standing, is_active, active, is_in, member, joined_by, everyone, set_told, told, has_in, bears, stable, before_online}
 use Rattle.group_laws.specs.Fresh.{Tells}
 use Rattle.group_laws.proofs.Lists.{any_mem, all_at, IsPast-length, IsPast-self}
-use Rattle.group_laws.proofs.Names.{inc_eq_same}
+use Rattle.node_rules.proofs.Incs.{inc_is}
 use Rattle.group_laws.proofs.Certs.{cons_keeps}
 
 -- how far an incarnation has come
@@ -105,7 +105,7 @@ came_from m o (Online t) s h = inr (cond_from (inc_eq o m) s (on_online s) (onli
 came_from m o (Joins j) s h = go (cond_rank (inc_eq j.inc m) s (on_join s) h)
   where
     go : (inc_eq j.inc m ≡ true) ⊎ (0 < rank s) → (Some j.inc ≡ Some m) ⊎ (0 < rank s)
-    go (inl e) = inl (ap Some (inc_eq_same j.inc m e))
+    go (inl e) = inl (ap Some (inc_is j.inc m e))
     go (inr k) = inr k
 came_from m o (Leaves j) s h = inr (cond_from (inc_eq j m) s (on_leave s) (leave_from s) h)
 came_from m o (Prepared t) s h = inr h
@@ -119,7 +119,7 @@ stood_in r [] m h = go (has_inc (founders r) m) refl
     go : (b : Bool) → has_inc (founders r) m ≡ b → Mem m (founders r)
     go true e =
         let f = any_mem (λ x. inc_eq x m) (founders r) e in
-        let p : f.0 ≡ m = inc_eq_same f.0 m f.2 in subst (λ x. Mem x (founders r)) p f.1
+        let p : f.0 ≡ m = inc_is f.0 m f.2 in subst (λ x. Mem x (founders r)) p f.1
     go false e = let h2 : 0 < 0 = rw e at h in absurd (omega arith)
 stood_in r (v ∷ p) m h = go (came_from m v.origin v.body (standing r p m) h) (stood_in r p m)
   where
@@ -141,7 +141,7 @@ told_by [] m g h = absurd (false≢true h)
 told_by (v ∷ p) m g h = go (inc_eq v.origin m) refl (set_told v.body) refl (told_by p m g)
   where
     go : (b : Bool) → inc_eq v.origin m ≡ b → (o : Option Gtids) → set_told v.body ≡ o → (has_in (told p m) g ≡ true → (w : Value) × (s : Gtids) × Mem w p × Tells w m s × (has s g ≡ true)) → (w : Value) × (s : Gtids) × Mem w (v ∷ p) × Tells w m s × (has s g ≡ true)
-    go true e (Some s) f rec = let h2 : has s g ≡ true = rw (e, f) at h in (v, s, inl refl, (inc_eq_same v.origin m e, f), h2)
+    go true e (Some s) f rec = let h2 : has s g ≡ true = rw (e, f) at h in (v, s, inl refl, (inc_is v.origin m e, f), h2)
     go true e None f rec = let h2 : has_in (told p m) g ≡ true = rw (e, f) at h in let x = rec h2 in (x.0, x.1, inr x.2, x.3, x.4)
     go false e o f rec = let h2 : has_in (told p m) g ≡ true = rw e at h in let x = rec h2 in (x.0, x.1, inr x.2, x.3, x.4)
 

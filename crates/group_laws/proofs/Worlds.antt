@@ -10,11 +10,12 @@ use Rattle.group_laws.specs.Lawful.{LawfulMade, LawfulDid, LawfulLife}
 use Rattle.group_laws.specs.View.{last_kept}
 use Rattle.group_laws.specs.World.{Does, Writes, World, life, adds, owned, Lawful, MadeAt, MadeBy, JointDid, Joint, IsKeptList}
 use Rattle.group_laws.proofs.Lists.{IsPast-self, pasts_compare}
-use Rattle.group_laws.proofs.Names.{inc_eq_same, inc_eq_itself, eqb-self}
+use Rattle.node_rules.proofs.Incs.{inc_is, inc_same}
+use Rattle.group_laws.proofs.Names.{eqb-self}
 use Rattle.group_laws.proofs.Lives.{last_made_mono}
 
 pub life_here : (w : World) (m : Inc) (d : Did) → life (Does m d ∷ w) m ≡ d ∷ life w m
-life_here w m d = let e : inc_eq m m ≡ true = inc_eq_itself m in rw e refl
+life_here w m d = let e : inc_eq m m ≡ true = inc_same m in rw e refl
 
 pub life_past : (a w : World) (m : Inc) → IsPast a w → IsPast (life a m) (life w m)
 life_past a [] m h = let e : a ≡ [] = h in ap (λ (y : World). life y m) e
@@ -38,7 +39,7 @@ lawful_life r (Does i d ∷ w) m l = go (inc_eq i m) refl (lawful_life r w m l.1
   where
     go : (b : Bool) → inc_eq i m ≡ b → LawfulLife r m (life w m) → LawfulLife r m (life (Does i d ∷ w) m)
     go true e k =
-        let q : i ≡ m = inc_eq_same i m e in
+        let q : i ≡ m = inc_is i m e in
         let ld : LawfulDid r m (life w m) d = subst (λ (y : Inc). LawfulDid r y (life w y) d) q l.0 in
         rw e (ld, k)
     go false e k = rw e k
@@ -69,7 +70,7 @@ within_run (Does i c ∷ w) m d l h = go (inc_eq i m) refl (within_run w m d l)
         split (inl k) =
             let q : d ≡ c = cc k in
             let u : l ≡ life w m = cc k in
-            let im : m ≡ i = sym (inc_eq_same i m e) in
+            let im : m ≡ i = sym (inc_is i m e) in
             record { past = w; mark = inl (ap (λ y. Does y d ∷ w) im ∙ ap (λ y. Does i y ∷ w) q); lived = sym u }
 within_run (Writes s g y x ∷ w) m d l h = let y = within_run w m d l h in record { past = y.past; mark = inr y.mark; lived = y.lived }
 
@@ -110,7 +111,7 @@ executed_owned r k (Does i d ∷ w) m g j h = go (inc_eq i m) refl (executed_own
         or_right (eqb i.server m.server && adds d g) (owned w m.server g) (rec h2)
     go true e rec =
         let h2 : executed (d ∷ life w m) g ≡ true = rw e at h in
-        let q : i ≡ m = inc_eq_same i m e in
+        let q : i ≡ m = inc_is i m e in
         let j2 : JointDid k w m d = subst (λ (y : Inc). JointDid k w y d) q j.0 in
         let o : (adds d g || owned w m.server g) ≡ true = did_owned k w m d g j2 rec h2 in
         let s : eqb i.server m.server ≡ true = ap (λ (y : Inc). eqb y.server m.server) q ∙ eqb-self m.server in
@@ -171,14 +172,14 @@ made_before r w a v e l h m o n = go (pasts_compare (Does v.origin (Made (as_mad
 pub kept_number : (r : Setup) (p : List Value) (v : Value) → IsKeptList r p → Mem v p → v.number ≤ last_kept p v.origin
 kept_number r [] v k i = absurd i
 kept_number r (x ∷ p) v k (inl e) =
-    let t : inc_eq x.origin v.origin ≡ true = ap (λ (y : Value). inc_eq y.origin v.origin) e ∙ inc_eq_itself v.origin in
+    let t : inc_eq x.origin v.origin ≡ true = ap (λ (y : Value). inc_eq y.origin v.origin) e ∙ inc_same v.origin in
     let s : x.number ≡ v.number = ap (λ (y : Value). y.number) e in
     rw t (omega (arith, s))
 kept_number r (x ∷ p) v k (inr i) = go (inc_eq x.origin v.origin) refl (kept_number r p v k.1 i)
   where
     go : (b : Bool) → inc_eq x.origin v.origin ≡ b → v.number ≤ last_kept p v.origin → v.number ≤ last_kept (x ∷ p) v.origin
     go true e a =
-        let o : x.origin ≡ v.origin = inc_eq_same x.origin v.origin e in
+        let o : x.origin ≡ v.origin = inc_is x.origin v.origin e in
         let s : x.number ≡ suc (last_kept p x.origin) = k.0.0 in
         let t : last_kept p x.origin ≡ last_kept p v.origin = ap (last_kept p) o in
         rw e (omega (arith, a, s, t))

@@ -26,7 +26,7 @@ use Rattle.group_rules.specs.Legal.{IsPast}
 use Rattle.group_rules.specs.World.{world_after, Happening, Past, Does, Writes as WritesOffline, Halts, life_in}
 use Rattle.group_runs.specs.Runs.{is_founder, AllDid, ByRules, IsFirst, IsDone, EveryRun}
 use Rattle.group_order.specs.OneLog.{TakenAs, Follows, AgreesAt, OneLogOf, EveryRunHasOne}
-use Rattle.group_order.proofs.Incs.{inc_is}
+use Rattle.node_rules.proofs.Incs.{inc_is}
 use Rattle.group_order.proofs.Nexts.{did_past}
 use Rattle.group_order.proofs.Shapes.{Shape, shapes, one_more}
 use Rattle.group_laws.specs.Entries as law

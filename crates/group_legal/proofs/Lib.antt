@@ -5,3 +5,4 @@ pub mod Founders
 pub mod Prefix
 pub mod Told
 pub mod Takers
+mod Ordered

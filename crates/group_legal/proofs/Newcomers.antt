@@ -22,7 +22,7 @@ use Rattle.group_rules.specs.Parts.{open_parts, held}
 use Rattle.group_laws.specs.Entries as law
 use Rattle.group_laws.specs.View as seen
 use Rattle.group_laws.specs.Life as lives
-use Rattle.group_laws.proofs.Names.{inc_eq_same}
+use Rattle.node_rules.proofs.Incs.{inc_is}
 use Rattle.group_lives.specs.Lives.{does_body, does_entry, placed, life_of}
 use Rattle.group_lives.specs.Sound.{IsNew, AddsNew}
 use Rattle.group_order.proofs.Adds.{read_adds}
@@ -107,7 +107,7 @@ module _ (t : Setup) (base : List law.Placed) where
       other k j q true e =
           let x = has_joined v log j q in
           let a = read_adds (reading_of t log) v j k (ap (has_effect (reading_of t log)) x.0 ∙ x.1) x.0 in
-          absurd (false≢true (sym h ∙ ap (has_inc (read (reading_of t log) v).ever) (sym (inc_eq_same j.inc m e)) ∙ a))
+          absurd (false≢true (sym h ∙ ap (has_inc (read (reading_of t log) v).ever) (sym (inc_is j.inc m e)) ∙ a))
 
       go : (b : Bool) → is_kept (reading_of t log) v ≡ b → seen.standing t (at_log log) m ≡ seen.Absent → seen.standing t (list_if b v log) m ≡ seen.Absent
       go true k a = ap (seen.stands_after m v.id.origin (placed (new_entry t v log)).value.body) a

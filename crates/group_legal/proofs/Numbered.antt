@@ -19,7 +19,7 @@ use Rattle.group_laws.specs.Lists.{Mem}
 use Rattle.group_laws.specs.Entries as law
 use Rattle.group_laws.specs.View as seen
 use Rattle.group_laws.specs.World.{IsKeptList}
-use Rattle.group_laws.proofs.Names.{inc_eq_same, inc_eq_itself}
+use Rattle.node_rules.proofs.Incs.{inc_is, inc_back}
 use Rattle.group_laws.proofs.Lists.{any_mem}
 use Rattle.group_lives.specs.Lives.{placed}
 use Rattle.group_lives.proofs.Taking.{views_agree}
@@ -30,22 +30,13 @@ use Rattle.group_order.proofs.Members.{by_read}
 use Rattle.group_legal.proofs.Scanned.{old_list, new_entry, takes}
 use Rattle.group_legal.proofs.Newcomers.{never, adds_new, list_if}
 
-inc_back : (i j : Inc) → inc_eq i j ≡ inc_eq j i
-inc_back i j = go (inc_eq i j) refl (inc_eq j i) refl
-  where
-    go : (a : Bool) → inc_eq i j ≡ a → (b : Bool) → inc_eq j i ≡ b → a ≡ b
-    go true p true q = refl
-    go false p false q = refl
-    go true p false q = absurd (false≢true (sym q ∙ subst (λ (z : Inc). inc_eq z i ≡ true) (inc_eq_same i j p) (inc_eq_itself i)))
-    go false p true q = absurd (false≢true (sym p ∙ subst (λ (z : Inc). inc_eq z j ≡ true) (inc_eq_same j i q) (inc_eq_itself j)))
-
 -- one that never was a member made no kept value
 no_number : (s : Setup) (p : List law.Value) (m : Inc) → IsKeptList s p → seen.standing s p m ≡ seen.Absent → seen.last_kept p m ≡ 0
 no_number s [] m k a = refl
 no_number s (v ∷ p) m k a = go (inc_eq v.origin m) refl (came_in m v.origin v.body (seen.standing s p m) a) (no_number s p m k.1)
   where
     go : (b : Bool) → inc_eq v.origin m ≡ b → seen.standing s p m ≡ seen.Absent → (seen.standing s p m ≡ seen.Absent → seen.last_kept p m ≡ 0) → cond (inc_eq v.origin m) v.number (seen.last_kept p m) ≡ 0
-    go true q z f = absurd (false≢true (ap seen.is_in (sym z) ∙ ap (λ (i : Inc). seen.member s p i) (sym (inc_eq_same v.origin m q)) ∙ k.0.1))
+    go true q z f = absurd (false≢true (ap seen.is_in (sym z) ∙ ap (λ (i : Inc). seen.member s p i) (sym (inc_is v.origin m q)) ∙ k.0.1))
     go false q z f = ap (λ (b : Bool). cond b v.number (seen.last_kept p m)) q ∙ f z
 
 -- the members' last numbers are those of the list
@@ -91,7 +82,7 @@ next_of : (ms : List Member) (p : List law.Value) (i : Inc) (n : ℕ) → is_nex
 next_of ms p i n h k =
     let x = any_member ms h in
     let y = and_parts (inc_eq x.0.inc i) (eqb n (x.0.last + 1)) x.2 in
-    let e : x.0.inc ≡ i = inc_eq_same x.0.inc i y.0 in
+    let e : x.0.inc ≡ i = inc_is x.0.inc i y.0 in
     let l : x.0.last ≡ seen.last_kept p i = k x.0 x.1 ∙ ap (seen.last_kept p) e in
     let z : n ≡ x.0.last + 1 = eqb-true n (x.0.last + 1) y.1 in
     (member_there ms x.0 x.1 y.0, omega (arith, z, l))
@@ -131,7 +122,7 @@ module _ (t : Setup) (base : List law.Placed) where
       absent = never t base log j.inc (not-true (has_inc (reading_of t log).ever j.inc) (and_parts _ (not (has_inc (reading_of t log).ever j.inc)) h).1)
 
       go : (b : Bool) → inc_eq v.id.origin j.inc ≡ b → cond (inc_eq v.id.origin j.inc) v.id.number (seen.last_kept (list_at log) j.inc) ≡ 0
-      go true e = absurd (false≢true (ap seen.is_in (sym absent) ∙ ap (λ (i : Inc). seen.member t (list_at log) i) (sym (inc_eq_same v.id.origin j.inc e)) ∙ q))
+      go true e = absurd (false≢true (ap seen.is_in (sym absent) ∙ ap (λ (i : Inc). seen.member t (list_at log) i) (sym (inc_is v.id.origin j.inc e)) ∙ q))
       go false e = ap (λ (b : Bool). cond b v.id.number (seen.last_kept (list_at log) j.inc)) e ∙ no_number t (list_at log) j.inc k absent
 
   -- the members after a value that is kept

@@ -6,17 +6,31 @@
 ghost use Rattle.std.specs.Prelude.{◌≡◌, List};
 ghost use Rattle.slot_values.specs.declared.value.Value.{Value};
 ghost use Rattle.group_rules.specs.Events.{Setup};
+ghost use Rattle.group_rules.specs.Legal.{OneOrderedList};
 ghost use Rattle.group_rules.specs.OneList.{listed};
+ghost use Rattle.group_rules.specs.World.{Past};
 ghost use Rattle.group_laws.specs.Entries as law;
 ghost use Rattle.group_laws.specs.Verdict as decided;
 ghost use Rattle.group_laws.specs.Life as lives;
 ghost use Rattle.group_laws.specs.World.{IsKeptList};
 ghost use Rattle.group_lives.specs.Lives.{life_of};
 ghost use Rattle.group_lives.specs.Sound.{IsTaking, AddsNew};
+ghost use Rattle.group_order.specs.OneLog.{OneLogOf};
 ghost use Rattle.group_legal.specs.Lists.{EveryFounderTakes};
+ghost use Rattle.group_legal.specs.Order.{EveryRunIsOrdered};
 
 use group_order::slots_are_of_one_log;
 use group_runs::runs_are_of_nodes;
+
+/// The first law of a legal run holds of every run, for the list that its one log gives: each slot that an incarnation takes or skips has the value and the
+/// entry of the list, in consecutive slots, from the slot of its own Add on; no other slot is in the log; and each value that is taken or skipped, but for a
+/// Noop, was made before by its origin.
+pub fn the_list_is_one()
+    ensures ordered { (t : Setup) (w : Past) (one : OneLogOf t w) → OneOrderedList t one.log w }
+    ensures every_run { EveryRunIsOrdered }
+{
+    slots_are_of_one_log();
+}
 
 /// The list of a log has consecutive places and the effects of its view, its verdicts are those that the laws find by a scan,
 /// it adds nobody twice, and each of its values is of one who then is a member, with the member's next number.

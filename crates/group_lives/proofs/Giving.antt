@@ -18,7 +18,7 @@ use Rattle.group_laws.specs.View as seen
 use Rattle.group_laws.specs.Verdict as decided
 use Rattle.group_laws.specs.Life as lives
 use Rattle.group_laws.specs.World.{IsKeptList}
-use Rattle.group_laws.proofs.Names.{inc_eq_same, inc_eq_itself}
+use Rattle.node_rules.proofs.Incs.{inc_is, inc_same}
 use Rattle.group_laws.proofs.Lists.{any_from}
 use Rattle.group_lives.specs.Lives.{life_of}
 use Rattle.group_lives.specs.Given.{IsHere, IsToldSet, GivenAs}
@@ -42,10 +42,10 @@ told_given ts (i ∷ is) m = go (told_of ts i) refl (inc_eq i m) refl (told_give
     go : (o : Option Gtids) → told_of ts i ≡ o → (b : Bool) → inc_eq i m ≡ b → told_of (sets_of ts is) m ≡ cond (has_inc is m) (told_of ts m) None
         → told_of (sets_of ts (i ∷ is)) m ≡ cond (has_inc (i ∷ is) m) (told_of ts m) None
     go None p true q t =
-        let e : told_of ts m ≡ None = ap (told_of ts) (sym (inc_eq_same i m q)) ∙ p in
+        let e : told_of ts m ≡ None = ap (told_of ts) (sym (inc_is i m q)) ∙ p in
         rw (p, q, sets_of) (t ∙ ap (λ (o : Option Gtids). cond (has_inc is m) o None) e ∙ none (has_inc is m) ∙ sym e)
     go None p false q t = rw (p, q, sets_of) t
-    go (Some x) p true q t = rw (p, q, sets_of, told_of) (sym (ap (told_of ts) (sym (inc_eq_same i m q)) ∙ p))
+    go (Some x) p true q t = rw (p, q, sets_of, told_of) (sym (ap (told_of ts) (sym (inc_is i m q)) ∙ p))
     go (Some x) p false q t = rw (p, q, sets_of, told_of) t
 
 last_given : (xs : List LastNumber) (is : List Inc) (m : Inc) → last_of (numbers_of xs is) m ≡ cond (has_inc is m) (last_of xs m) None
@@ -59,10 +59,10 @@ last_given xs (i ∷ is) m = go (last_of xs i) refl (inc_eq i m) refl (last_give
     go : (o : Option ℕ) → last_of xs i ≡ o → (b : Bool) → inc_eq i m ≡ b → last_of (numbers_of xs is) m ≡ cond (has_inc is m) (last_of xs m) None
         → last_of (numbers_of xs (i ∷ is)) m ≡ cond (has_inc (i ∷ is) m) (last_of xs m) None
     go None p true q t =
-        let e : last_of xs m ≡ None = ap (last_of xs) (sym (inc_eq_same i m q)) ∙ p in
+        let e : last_of xs m ≡ None = ap (last_of xs) (sym (inc_is i m q)) ∙ p in
         rw (p, q, numbers_of) (t ∙ ap (λ (o : Option ℕ). cond (has_inc is m) o None) e ∙ none (has_inc is m) ∙ sym e)
     go None p false q t = rw (p, q, numbers_of) t
-    go (Some x) p true q t = rw (p, q, numbers_of, last_of) (sym (ap (last_of xs) (sym (inc_eq_same i m q)) ∙ p))
+    go (Some x) p true q t = rw (p, q, numbers_of, last_of) (sym (ap (last_of xs) (sym (inc_is i m q)) ∙ p))
     go (Some x) p false q t = rw (p, q, numbers_of, last_of) t
 
 -- ---- those that never were members wrote nothing
@@ -123,7 +123,7 @@ strangers s (e ∷ ps) m k a = go (inc_eq e.value.origin m) refl (came_in m e.va
   where
     go : (b : Bool) → inc_eq e.value.origin m ≡ b → seen.standing s (law.values ps) m ≡ seen.Absent
         → (seen.standing s (law.values ps) m ≡ seen.Absent → decided.last_of m (law.certified s ps) ≡ None) → decided.last_of m (law.certified s (e ∷ ps)) ≡ None
-    go true q z f = absurd (false≢true (ap seen.is_in (sym z) ∙ ap (λ (i : Inc). seen.member s (law.values ps) i) (sym (inc_eq_same e.value.origin m q)) ∙ k.0.1))
+    go true q z f = absurd (false≢true (ap seen.is_in (sym z) ∙ ap (λ (i : Inc). seen.member s (law.values ps) i) (sym (inc_is e.value.origin m q)) ∙ k.0.1))
     go false q z f = one_stranger s (suc (length ps)) e.value.origin m e.value.number e.value.body e.outcome (law.certified s ps) q ∙ f z
 
 -- ---- the Give
@@ -145,7 +145,7 @@ module _ (s : Setup) (base : List law.Placed) (l : Life) (h : IsTaking s base l)
   told_gives : (m : Inc) → seen.active s list_given m ≡ true → told_of (sets_of (told l) (online_incs (view s l))) m ≡ seen.told list_given m
   told_gives m t =
       let i = is_there (view s l).seats m (up_here m t) in
-      let b : has_inc (online_incs (view s l)) m ≡ true = any_from (λ x. inc_eq x m) (online_incs (view s l)) m i (inc_eq_itself m) in
+      let b : has_inc (online_incs (view s l)) m ≡ true = any_from (λ x. inc_eq x m) (online_incs (view s l)) m i (inc_same m) in
       told_given (told l) (online_incs (view s l)) m ∙ ap (λ (b : Bool). cond b (told_of (told l) m) None) b ∙ told_agrees s base m l h t
 
   sound_gives : (m : Inc) → IsToldSet (told_of (sets_of (told l) (online_incs (view s l))) m)

@@ -22,7 +22,7 @@ use Rattle.group_laws.specs.Entries as law
 use Rattle.group_laws.specs.View as seen
 use Rattle.group_laws.specs.Verdict as decided
 use Rattle.group_laws.specs.Life as lives
-use Rattle.group_laws.proofs.Names.{inc_eq_same}
+use Rattle.node_rules.proofs.Incs.{inc_is}
 use Rattle.group_lives.specs.Given.{IsHere}
 use Rattle.group_lives.specs.Lives.{does_entry, outcome_of, life_of}
 use Rattle.group_lives.specs.Sound.{IsEffect, IsTaking}
@@ -30,7 +30,7 @@ use Rattle.group_lives.proofs.Taking.{skip_answer, skip_state, skip_made}
 
 -- two names that differ are not both the same as a third
 apart : (a b m : Inc) → inc_eq a b ≡ false → inc_eq b m ≡ true → inc_eq a m ≡ false
-apart a b m h k = subst (λ (z : Inc). inc_eq a z ≡ false) (inc_eq_same b m k) h
+apart a b m h k = subst (λ (z : Inc). inc_eq a z ≡ false) (inc_is b m k) h
 
 -- ---- the last number of each
 
@@ -51,7 +51,7 @@ last_with (x ∷ xs) n m = go (inc_lt n.inc x.inc) (inc_eq n.inc x.inc) (inc_eq 
     go true e true b p q r s k = rw (p, r, with_last, last_of) refl
     go true e false b p q r s k = rw (p, r, with_last, last_of) refl
     go false true true b p q r s k = rw (p, q, r, with_last, last_of) refl
-    go false true false true p q r s k = absurd (false≢true (sym r ∙ ap (λ (z : Inc). inc_eq z m) (inc_eq_same n.inc x.inc q) ∙ s))
+    go false true false true p q r s k = absurd (false≢true (sym r ∙ ap (λ (z : Inc). inc_eq z m) (inc_is n.inc x.inc q) ∙ s))
     go false true false false p q r s k = rw (p, q, r, s, with_last, last_of) refl
     go false false true true p q r s k = absurd (false≢true (sym (apart n.inc x.inc m q s) ∙ r))
     go false false true false p q r s k = rw (p, q, r, s, with_last, last_of) (k ∙ ap (λ (z : Bool). cond z (Some n.number) (last_of xs m)) r)
@@ -178,7 +178,7 @@ told_with (x ∷ xs) t m = go (inc_lt t.inc x.inc) (inc_eq t.inc x.inc) (inc_eq 
     go true e true b p q r s k = rw (p, r, with_told, told_of) refl
     go true e false b p q r s k = rw (p, r, with_told, told_of) refl
     go false true true b p q r s k = rw (p, q, r, with_told, told_of) refl
-    go false true false true p q r s k = absurd (false≢true (sym r ∙ ap (λ (z : Inc). inc_eq z m) (inc_eq_same t.inc x.inc q) ∙ s))
+    go false true false true p q r s k = absurd (false≢true (sym r ∙ ap (λ (z : Inc). inc_eq z m) (inc_is t.inc x.inc q) ∙ s))
     go false true false false p q r s k = rw (p, q, r, s, with_told, told_of) refl
     go false false true true p q r s k = absurd (false≢true (sym (apart t.inc x.inc m q s) ∙ r))
     go false false true false p q r s k = rw (p, q, r, s, with_told, told_of) (k ∙ ap (λ (z : Bool). cond z (Some t.set) (told_of xs m)) r)

@@ -6,7 +6,7 @@ use Rattle.group_rules.specs.World.{Past, Does, Writes as WritesOffline, Halts, 
 use Rattle.group_laws.specs.Entries as law
 use Rattle.group_laws.specs.Life as lives
 use Rattle.group_laws.specs.World as run
-use Rattle.group_laws.proofs.Names.{inc_eq_same}
+use Rattle.node_rules.proofs.Incs.{inc_is}
 use Rattle.group_lives.specs.Lives.{did_of, life_of, all_did, run_of}
 
 did_alone : (i j : Inc) (ds : List lives.Did) (w : run.World) → run.life (all_did j ds ++ w) i ≡ cond (inc_eq j i) (ds ++ run.life w i) (run.life w i)
@@ -27,7 +27,7 @@ lives_agree base (Does j d ∷ p) i = did_alone i j (did_of (base j) d (life_in 
   where
     go : (b : Bool) → inc_eq j i ≡ b → run.life (run_of base p) i ≡ life_of (base i) (life_in p i) → cond b (did_of (base j) d (life_in p j) ++ run.life (run_of base p) i) (run.life (run_of base p) i) ≡ life_of (base i) (elim b [ true ↦ d ∷ life_in p i | false ↦ life_in p i ])
     go true e h =
-        let q : j ≡ i = inc_eq_same j i e in
+        let q : j ≡ i = inc_is j i e in
         λ k. did_of (base (q k)) d (life_in p (q k)) ++ h k
     go false e h = h
 lives_agree base (WritesOffline n x ∷ p) i = lives_agree base p i

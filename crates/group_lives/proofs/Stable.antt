@@ -20,7 +20,7 @@ use Rattle.group_laws.specs.Lists.{Mem}
 use Rattle.group_laws.specs.Entries as law
 use Rattle.group_laws.specs.View as seen
 use Rattle.group_laws.specs.Life as lives
-use Rattle.group_laws.proofs.Names.{inc_eq_same, inc_eq_itself}
+use Rattle.node_rules.proofs.Incs.{inc_is, inc_same}
 use Rattle.group_laws.proofs.CodeForms.{stable_over}
 use Rattle.group_lives.specs.Given.{IsToldSet}
 use Rattle.group_lives.specs.Lives.{life_of}
@@ -81,7 +81,7 @@ is_up (s ∷ ss) m h = go (is_online_state s.state) refl h (is_up ss m)
 
     go : (b : Bool) → is_online_state s.state ≡ b → Mem m (seated (cond b (s ∷ filter (λ s. is_online_state s.state) ss) (filter (λ s. is_online_state s.state) ss)))
         → (Mem m (seated (filter (λ s. is_online_state s.state) ss)) → up ss m ≡ true) → up (s ∷ ss) m ≡ true
-    go true e (inl q) k = rw (e) (ap (λ (z : Inc). (inc_eq z m && true) || up ss m) q ∙ ap (λ (z : Bool). (z && true) || up ss m) (inc_eq_itself m))
+    go true e (inl q) k = rw (e) (ap (λ (z : Inc). (inc_eq z m && true) || up ss m) q ∙ ap (λ (z : Bool). (z && true) || up ss m) (inc_same m))
     go true e (inr q) k = ap (λ (z : Bool). (inc_eq s.joiner.inc m && is_online_state s.state) || z) (k q) ∙ right (inc_eq s.joiner.inc m && is_online_state s.state)
     go false e q k = ap (λ (z : Bool). (inc_eq s.joiner.inc m && is_online_state s.state) || z) (k q) ∙ right (inc_eq s.joiner.inc m && is_online_state s.state)
 
@@ -91,7 +91,7 @@ is_there (s ∷ ss) m h = go (is_online_state s.state) (inc_eq s.joiner.inc m) r
   where
     go : (b a : Bool) → is_online_state s.state ≡ b → inc_eq s.joiner.inc m ≡ a → up (s ∷ ss) m ≡ true
         → (up ss m ≡ true → Mem m (seated (filter (λ s. is_online_state s.state) ss))) → Mem m (seated (filter (λ s. is_online_state s.state) (s ∷ ss)))
-    go true true e q h k = rw e (inl (inc_eq_same s.joiner.inc m q))
+    go true true e q h k = rw e (inl (inc_is s.joiner.inc m q))
     go true false e q h k = rw e (inr (k ((λ i. (sym q i && is_online_state s.state) || up ss m) ∙ h)))
     go false true e q h k = rw e (k ((λ i. (sym q i && sym e i) || up ss m) ∙ h))
     go false false e q h k = rw e (k ((λ i. (sym q i && is_online_state s.state) || up ss m) ∙ h))

@@ -18,7 +18,7 @@ use Rattle.group_rules.specs.View.{View, is_single, has_primary, elect, joiners,
 use Rattle.group_laws.specs.Entries.{Body, Write, Executed, Online, Joins, Leaves, Prepared, Switches, Appoints, Plain, Value}
 use Rattle.group_laws.specs.View.{Standing, Absent, Recovering, Active, Gone, on_join, on_online, on_leave, stands_after, founders, standing, is_in, is_active}
 use Rattle.group_laws.specs.Primary.{view_after, view}
-use Rattle.group_laws.proofs.Names.{inc_eq_same, inc_eq_itself}
+use Rattle.node_rules.proofs.Incs.{inc_is, inc_same}
 use Rattle.group_lives.specs.Sound.{IsNew, AddsNew}
 
 -- ---- the seats after an entry
@@ -104,12 +104,9 @@ module _ (m : Inc) (f : Seat → Bool) (named : (s : Seat) → f s ≡ true → 
           → list_any f (filter (λ s. not (inc_eq s.joiner.inc i)) ss) ≡ cond (inc_eq i m) false (list_any f ss)
           → list_any f (filter (λ s. not (inc_eq s.joiner.inc i)) (s ∷ ss)) ≡ cond (inc_eq i m) false (list_any f (s ∷ ss))
       go true b true p q r k = rw (p, r) (k ∙ ap (λ (z : Bool). cond z false (list_any f ss)) r)
-      go true true false p q r k = absurd (false≢true (sym r ∙ ap (λ (z : Inc). inc_eq z m) (sym (inc_eq_same s.joiner.inc i p)) ∙ named s q))
+      go true true false p q r k = absurd (false≢true (sym r ∙ ap (λ (z : Inc). inc_eq z m) (sym (inc_is s.joiner.inc i p)) ∙ named s q))
       go true false false p q r k = rw (p, q, r) (k ∙ ap (λ (z : Bool). cond z false (list_any f ss)) r)
-      go false true true p q r k = absurd (false≢true (sym p ∙ ap (λ (z : Inc). inc_eq z i) (inc_eq_same s.joiner.inc m (named s q)) ∙ ap (λ (z : Inc). inc_eq z i) (sym (inc_eq_same i m r)) ∙ itself i))
-        where
-          itself : (z : Inc) → inc_eq z z ≡ true
-          itself z = inc_eq_itself z
+      go false true true p q r k = absurd (false≢true (sym p ∙ ap (λ (z : Inc). inc_eq z i) (inc_is s.joiner.inc m (named s q)) ∙ ap (λ (z : Inc). inc_eq z i) (sym (inc_is i m r)) ∙ inc_same i))
       go false false true p q r k = rw (p, q, r) (k ∙ ap (λ (z : Bool). cond z false (list_any f ss)) r)
       go false b false p q r k = rw (p, q, r) (ap (λ (z : Bool). b || z) (k ∙ ap (λ (z : Bool). cond z false (list_any f ss)) r))
 
@@ -134,15 +131,15 @@ up_online [] o m = go (inc_eq o m)
 up_online (s ∷ ss) o m = go (inc_eq s.joiner.inc o) (inc_eq o m) (inc_eq s.joiner.inc m) refl refl refl (up_online ss o m)
   where
     itself : (x y : Inc) → x ≡ y → inc_eq x y ≡ true
-    itself x y e = subst (λ (z : Inc). inc_eq x z ≡ true) e (inc_eq_itself x)
+    itself x y e = subst (λ (z : Inc). inc_eq x z ≡ true) e (inc_same x)
 
     go : (a b c : Bool) → inc_eq s.joiner.inc o ≡ a → inc_eq o m ≡ b → inc_eq s.joiner.inc m ≡ c
         → up (comes_online ss o) m ≡ cond (inc_eq o m) (sat ss m) (up ss m) → up (comes_online (s ∷ ss) o) m ≡ cond (inc_eq o m) (sat (s ∷ ss) m) (up (s ∷ ss) m)
     go true true true p q r k = rw (p, q, r) refl
-    go true true false p q r k = absurd (false≢true (sym r ∙ itself s.joiner.inc m (inc_eq_same s.joiner.inc o p ∙ inc_eq_same o m q)))
-    go true false true p q r k = absurd (false≢true (sym q ∙ itself o m (sym (inc_eq_same s.joiner.inc o p) ∙ inc_eq_same s.joiner.inc m r)))
+    go true true false p q r k = absurd (false≢true (sym r ∙ itself s.joiner.inc m (inc_is s.joiner.inc o p ∙ inc_is o m q)))
+    go true false true p q r k = absurd (false≢true (sym q ∙ itself o m (sym (inc_is s.joiner.inc o p) ∙ inc_is s.joiner.inc m r)))
     go true false false p q r k = rw (p, q, r) (k ∙ ap (λ (z : Bool). cond z (sat ss m) (up ss m)) q)
-    go false true true p q r k = absurd (false≢true (sym p ∙ itself s.joiner.inc o (inc_eq_same s.joiner.inc m r ∙ sym (inc_eq_same o m q))))
+    go false true true p q r k = absurd (false≢true (sym p ∙ itself s.joiner.inc o (inc_is s.joiner.inc m r ∙ sym (inc_is o m q))))
     go false true false p q r k = rw (p, q, r) (k ∙ ap (λ (z : Bool). cond z (sat ss m) (up ss m)) q)
     go false false c p q r k = rw (p, q, r) (ap (λ (z : Bool). (c && is_online_state s.state) || z) (k ∙ ap (λ (z : Bool). cond z (sat ss m) (up ss m)) q))
 
@@ -224,7 +221,7 @@ stands r (v ∷ p) m h =
     (by_body v.body h.0 (stands r p m h.1))
   where
     by_body : (b : Body) → IsNew r p b → StandsAs (view r p).seats m (standing r p m) → StandsAs (seats_after v.origin b (view r p).seats) m (stands_after m v.origin b (standing r p m))
-    by_body (Joins j) n k = joins_here m j (inc_eq j.inc m) (standing r p m) (view r p).seats refl (λ e. ap (standing r p) (sym (inc_eq_same j.inc m e)) ∙ n) k
+    by_body (Joins j) n k = joins_here m j (inc_eq j.inc m) (standing r p m) (view r p).seats refl (λ e. ap (standing r p) (sym (inc_is j.inc m e)) ∙ n) k
     by_body (Leaves i) n k = left_here m i (inc_eq i m) (standing r p m) (view r p).seats refl k
     by_body (Online x) n k = online_here m v.origin (inc_eq v.origin m) (standing r p m) (view r p).seats refl k
     by_body (Write t) n k = k

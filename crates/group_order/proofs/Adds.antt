@@ -12,7 +12,7 @@ use Rattle.slot_values.specs.declared.value.What.TheVariants.{Noop, Add, Remove,
 use Rattle.slot_values.specs.Log.{Group, Reading, founded, is_kept, has_effect, with_inc, kept, changed, read, after}
 use Rattle.node_rules.specs.Chosen.{Cast, IsChosenLog}
 use Rattle.order_laws.specs.Laws.{AddedIn}
-use Rattle.group_order.proofs.Incs.{inc_same, inc_is}
+use Rattle.node_rules.proofs.Incs.{inc_same, inc_is}
 use Rattle.group_order.proofs.Flips.{take_less, take_whole}
 
 -- ---- the incarnations that ever were members

@@ -25,7 +25,7 @@ use Rattle.group_rules.specs.World.{Past, Does, Writes, Halts, life_in}
 use Rattle.group_runs.specs.Runs.{IsSetup, is_founder, AllDid, IsDone}
 use Rattle.group_order.specs.OneLog.{is_member_of, IsReady, AgreesWith, Viewed, AgreesAt, SkippedAs}
 use Rattle.group_order.proofs.Steps.{SlotTaken, Steps}
-use Rattle.group_order.proofs.Incs.{inc_same, inc_is}
+use Rattle.node_rules.proofs.Incs.{inc_same, inc_is}
 use Rattle.group_order.proofs.Flips.{before_next}
 use Rattle.group_order.proofs.Shapes.{Shape, shapes, takes_after}
 use Rattle.group_order.proofs.Spans.{enters_waits}

@@ -28,7 +28,7 @@ use Rattle.group_rules.specs.Recovery.{all_parts}
 use Rattle.group_rules.specs.OneList.{reading_of, before_slot}
 use Rattle.group_rules.specs.World.{Past, Does, Writes as WritesRow, Halts, life_in}
 use Rattle.group_bridge.specs.Moves.{slots_in}
-use Rattle.group_order.proofs.Incs.{inc_is}
+use Rattle.node_rules.proofs.Incs.{inc_is}
 use Rattle.group_order.proofs.Adds.{or_parts}
 use Rattle.group_order.proofs.Flips.{before_above, before_all}
 use Rattle.group_order.proofs.Members.{by_read}

@@ -24,7 +24,7 @@ use Rattle.group_rules.specs.Certifier.{certifier, verdict}
 use Rattle.group_rules.specs.Taking.{effect_of, entry_of}
 use Rattle.group_rules.specs.OneList.{scan, scan_effect, scan_entry, listed_by, listed, reading_of}
 use Rattle.group_order.specs.OneLog.{is_member_of, IsReady, AgreesWith}
-use Rattle.group_order.proofs.Incs.{inc_is}
+use Rattle.node_rules.proofs.Incs.{inc_is}
 use Rattle.group_order.proofs.Joins.{kept_is}
 use Rattle.group_order.proofs.Listed.{listed_place}
 use Rattle.group_order.proofs.Members.{kept_origin, members_were, new_or_old, ever_before, new_has_none}

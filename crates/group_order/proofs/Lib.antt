@@ -1,6 +1,5 @@
 mod Flips
 mod Logs
-pub mod Incs
 pub mod Shapes
 pub mod Adds
 pub mod Spans

@@ -20,7 +20,7 @@ use Rattle.group_rules.specs.World.{Past, Does, Writes, Halts, life_in}
 use Rattle.group_rules.specs.OneList.{reading_of, value_at, before_slot, scan_entry, listed_by, listed}
 use Rattle.group_bridge.specs.Moves.{slots_in}
 use Rattle.group_runs.specs.Runs.{AllDid, IsDone, OfSlots}
-use Rattle.group_order.proofs.Incs.{inc_same, inc_is}
+use Rattle.node_rules.proofs.Incs.{inc_same, inc_is}
 use Rattle.group_order.proofs.Flips.{value_below, value_here, before_above, before_all, before_next}
 use Rattle.group_order.proofs.Shapes.{Shape, shapes}
 use Rattle.group_order.proofs.Spans.{enters_waits}

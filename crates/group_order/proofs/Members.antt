@@ -16,7 +16,7 @@ use Rattle.group_rules.specs.Parts.{open_parts}
 use Rattle.group_rules.specs.Steps.{group_of}
 use Rattle.group_rules.specs.OneList.{reading_of, listed_by, listed}
 use Rattle.group_order.specs.OneLog.{is_member_of}
-use Rattle.group_order.proofs.Incs.{inc_is}
+use Rattle.node_rules.proofs.Incs.{inc_is}
 use Rattle.group_order.proofs.Adds.{with_more, with_here, or_parts, or_first, or_second}
 use Rattle.group_order.proofs.Listed.{counted_incs, with_inc_more}
 

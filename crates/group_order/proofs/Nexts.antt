@@ -16,7 +16,7 @@ use Rattle.group_rules.specs.Taking.{takes_slots}
 use Rattle.group_rules.specs.World.{Past, Does, Writes, Halts, life_in}
 use Rattle.group_bridge.specs.Moves.{is_apart, slots_in}
 use Rattle.group_runs.specs.Runs.{AllDid, IsDone, HeardIn, WasGreeted, WasSentAs, OfSlots}
-use Rattle.group_order.proofs.Incs.{inc_same, inc_is}
+use Rattle.node_rules.proofs.Incs.{inc_same, inc_is}
 use Rattle.group_order.proofs.Shapes.{Shape, shapes}
 use Rattle.group_order.proofs.Spans.{Last, lasts, count_next, count_end}
 

@@ -39,7 +39,7 @@ use Rattle.group_order.proofs.Steps.{SlotTaken, Steps}
 use Rattle.group_order.proofs.Flips.{flip, flip_length, read_flip, take_flip, before_length}
 use Rattle.group_order.proofs.Logs.{LogOf, the_log, shorter, left_all}
 use Rattle.group_order.proofs.Shapes.{Shape, shapes, takes_after}
-use Rattle.group_order.proofs.Incs.{inc_same, inc_is}
+use Rattle.node_rules.proofs.Incs.{inc_same, inc_is}
 use Rattle.group_order.proofs.Adds.{added_once}
 use Rattle.group_order.proofs.Spans.{Last, Span, spans}
 use Rattle.group_order.proofs.Nexts.{past_self, past_of, did_past, done_at, last_done, EnteredBy, entered_by, WelcomeAt, IsNext, all_next}
@@ -49,25 +49,7 @@ use Rattle.group_order.proofs.Begins.{took_at}
 use Rattle.group_order.proofs.Agrees.{WelcomeFrom, GiveFrom, taker, all_agree}
 use Rattle.group_order.proofs.Lookups.{asks_over, slots_below, slot_by, value_within, listed_entry}
 
--- ---- a kept value has a number, and is no Noop
-
-no_zero : (ms : List Member) (i : Inc) → is_next ms i 0 ≡ true → ⊥
-no_zero [] i h = absurd (false≢true h)
-no_zero (m ∷ ms) i h = go (cases_Bool (eqb 0 (m.last + 1))) h (no_zero ms i)
-  where
-    go : (eqb 0 (m.last + 1) ≡ true) ⊎ (eqb 0 (m.last + 1) ≡ false) → list_any (λ m. inc_eq m.inc i && (0 == m.last + 1)) (m ∷ ms) ≡ true → (is_next ms i 0 ≡ true → ⊥) → ⊥
-    go (inl e) q r = let z : 0 ≡ m.last + 1 = eqb-true 0 (m.last + 1) e in absurd (omega (arith, z))
-    go (inr e) q r = elim (or_parts (inc_eq m.inc i && eqb 0 (m.last + 1)) (list_any (λ m. inc_eq m.inc i && (0 == m.last + 1)) ms) q) [
-      | inl z ↦ absurd (false≢true (sym e ∙ (and_parts (inc_eq m.inc i) (eqb 0 (m.last + 1)) z).1))
-      | inr z ↦ absurd (r z)
-    ]
-      where
-        or_parts : (a b : Bool) → (a || b) ≡ true → (a ≡ true) ⊎ (b ≡ true)
-        or_parts true b h = inl refl
-        or_parts false b h = inr h
-
-kept_number : (r : Reading) (v : Value) → is_kept r v ≡ true → v.id.number ≡ 0 → ⊥
-kept_number r v h e = no_zero r.members v.id.origin (subst (λ n. is_next r.members v.id.origin n ≡ true) e (and_parts (not (is_noop v.what)) (is_next r.members v.id.origin v.id.number) h).1)
+-- ---- a kept value is no Noop
 
 kept_what : (r : Reading) (v : Value) → is_kept r v ≡ true → v.what ≡ Noop → ⊥
 kept_what r v h e = absurd (false≢true (subst (λ w. not (is_noop w) ≡ true) e (and_parts (not (is_noop v.what)) (is_next r.members v.id.origin v.id.number) h).0))
@@ -135,13 +117,17 @@ module _ (t : Setup) (good : IsSetup t) (one : InEveryRun OneLog) (kept : InEver
 
   -- ---- values made before
 
+  -- the value of a slot is a Noop, or had been made when it was taken
+  made_then : (p : Past) (i : Inc) (d : Did) (h : TookThen t p i d) → (((h.took).0).value.what ≡ Noop) ⊎ WasMade p ((h.took).0).value
+  made_then p i d h = elim (subst (λ v. MadeBefore (group_of t) v) (sym (h.run).1) (before as_sent (λ ms m k. k) (group_of t) (h.run).0 good.horizon) (record { by = i; taken = (h.took).0 }) (h.took).1) [
+    | inl q ↦ inl q
+    | inr q ↦ inr (h.made ((h.took).0).value q)
+  ]
+
   made_of : (p : Past) (i : Inc) (e : Entry) → TookThen t p i (Took e) → TookAs t log (life_in p i) e → WasMade p e.value
-  made_of p i e h z = elim (subst (λ v. MadeBefore (group_of t) v) (sym (h.run).1) (before as_sent (λ ms m k. k) (group_of t) (h.run).0 good.horizon) (record { by = i; taken = (h.took).0 }) (h.took).1) [
+  made_of p i e h z = elim (made_then p i (Took e) h) [
     | inl q ↦ absurd (kept_what (reading_of t (before_slot log e.slot)) e.value is_kept_ (ap (λ v. v.what) value ∙ q))
-    | inr q ↦ elim (h.made (h.took).0.value q) [
-      | inl n ↦ absurd (kept_number (reading_of t (before_slot log e.slot)) e.value is_kept_ (ap (λ v. v.id.number) value ∙ n))
-      | inr m ↦ subst (λ v. WasMade p v) (sym value) m
-    ]
+    | inr m ↦ subst (λ v. WasMade p v) (sym value) m
   ]
     where
       is_kept_ : is_kept (reading_of t (before_slot log e.slot)) e.value ≡ true
@@ -154,8 +140,21 @@ module _ (t : Setup) (good : IsSetup t) (one : InEveryRun OneLog) (kept : InEver
           go IsSkipped q = absurd (cc q)
           go (KeptAt n b) q = let y : e ≡ entry_of t (life_in p i) ((h.took).0).slot n b ((h.took).0).value = cc in ap (λ d. d.value) y
 
-  skipped_is : (p : Past) (i : Inc) (s : ℕ) (v : Value) → LeftBy t log p i (Skips s v) → s ≡ suc (last_slot (life_in p i)) → SkippedAs t log p i s v
-  skipped_is p i s v h n = go ((h.0).kept) refl h.1
+  made_skipped : (p : Past) (i : Inc) (s : ℕ) (v : Value) → TookThen t p i (Skips s v) → is_noop v.what ≡ false → WasMade p v
+  made_skipped p i s v h n = elim (made_then p i (Skips s v) h) [
+    | inl q ↦ absurd (false≢true (sym n ∙ ap is_noop (ap (λ u. u.what) value ∙ q)))
+    | inr m ↦ subst (λ u. WasMade p u) (sym value) m
+  ]
+    where
+      value : v ≡ ((h.took).0).value
+      value = go ((h.took).0).kept (h.took).2
+        where
+          go : (k : Kept) → Skips s v ≡ slot_left t (life_in p i) ((h.took).0).slot ((h.took).0).value k → v ≡ ((h.took).0).value
+          go IsSkipped q = let y : Skips s v ≡ Skips ((h.took).0).slot ((h.took).0).value = q in cc
+          go (KeptAt n b) q = absurd (cc q)
+
+  skipped_is : (p : Past) (i : Inc) (s : ℕ) (v : Value) → LeftBy t log p i (Skips s v) → s ≡ suc (last_slot (life_in p i)) → TookThen t p i (Skips s v) → SkippedAs t log p i s v
+  skipped_is p i s v h n then = go ((h.0).kept) refl h.1
     where
       go : (k : Kept) → (h.0).kept ≡ k → Skips s v ≡ slot_left t (life_in p i) (h.0).slot (h.0).value (h.0).kept → SkippedAs t log p i s v
       go (KeptAt m b) q e = let z : Skips s v ≡ slot_left t (life_in p i) (h.0).slot (h.0).value (KeptAt m b) = e ∙ ap (λ k. slot_left t (life_in p i) (h.0).slot (h.0).value k) q in absurd (cc)
@@ -167,11 +166,12 @@ module _ (t : Setup) (good : IsSetup t) (one : InEveryRun OneLog) (kept : InEver
             value = ap (λ y. value_at log y) a ∙ ((h.2).value ∙ ap Some (sym b));
             next = n;
             skipped = ap (λ y. became (reading_of t (before_slot log y)) v) a ∙ (ap (λ y. became (reading_of t (before_slot log (h.0).slot)) y) b ∙ (sym (h.2).kept ∙ q));
+            made = made_skipped p i s v then;
           }
 
   follow : (p : Past) (i : Inc) (d : Did) → IsPast (Does i d ∷ p) w.past → OfSlots (LeftBy t log) p i d → OfSlots IsNext p i d → OfSlots (TookThen t) p i d → Steps t log p i d
   follow p i (Took e) k a n m = let z = took_as t log p i e a in record { value = z.value; next = n; made = made_of p i e m z; place = z.place; effect = z.effect; kept = z.kept; is_it = z.is_it }
-  follow p i (Skips s v) k a n m = skipped_is p i s v a n
+  follow p i (Skips s v) k a n m = skipped_is p i s v a n m
   follow p i (Enters u) k a n m = joined p i u k
   follow p i Founds k a n m = tt
   follow p i (Starts x) k a n m = tt

@@ -17,7 +17,7 @@ use Rattle.group_rules.specs.View.{seated, seat_in}
 use Rattle.group_rules.specs.OneList.{reading_of}
 use Rattle.group_runs.specs.Runs.{Apart, IsSetup}
 use Rattle.group_order.specs.OneLog.{is_member_of}
-use Rattle.group_order.proofs.Incs.{inc_same, inc_is}
+use Rattle.node_rules.proofs.Incs.{inc_same, inc_is}
 use Rattle.group_order.proofs.Adds.{or_parts, or_first, or_second}
 use Rattle.group_order.proofs.Listed.{counted_incs}
 use Rattle.group_order.proofs.Members.{by_read, counted_has, member_put, member_left, members_were}

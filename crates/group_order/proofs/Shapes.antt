@@ -17,7 +17,7 @@ use Rattle.group_rules.specs.World.{Past, Does, Writes, Halts, life_in}
 use Rattle.group_bridge.specs.Left.{is_settled}
 use Rattle.group_bridge.specs.Moves.{slots_in}
 use Rattle.group_runs.specs.Runs.{is_founder, AllDid, ByRules, IsFirst, IsDone}
-use Rattle.group_order.proofs.Incs.{inc_is}
+use Rattle.node_rules.proofs.Incs.{inc_is}
 
 pub record FounderLife (l : Life) : Type 0 where
   pub entered : entered l ≡ None

@@ -15,7 +15,7 @@ use Rattle.group_rules.specs.Steps.{group_of}
 use Rattle.group_rules.specs.World.{World, Past, Does, Writes, Halts, life_in}
 use Rattle.group_bridge.specs.Moves.{slots_in}
 use Rattle.group_runs.specs.Runs.{as_sent, IsSetup, is_founder, AllDid, IsDone, OfNodes}
-use Rattle.group_order.proofs.Incs.{inc_is}
+use Rattle.node_rules.proofs.Incs.{inc_is}
 use Rattle.group_order.proofs.Shapes.{Shape, Waits, not_entering, shapes}
 
 some_none : {A : Type 0} (x : A) → Some x ≡ None → ⊥

@@ -3,6 +3,7 @@ use Rattle.std.specs.Prelude.{◌≡◌, ◌⊎◌, ◌<◌, ℕ, suc, Bool, tru
 use Rattle.gr_ids.specs.Names.{has_inc}
 use Rattle.gr_ids.specs.declared.names.Inc.{Inc}
 use Rattle.slot_values.specs.declared.value.Value.{Value}
+use Rattle.slot_values.specs.Values.{is_noop}
 use Rattle.slot_values.specs.Log.{Reading, incs, became}
 use Rattle.slot_values.specs.declared.kept.Kept.TheVariants.{At as KeptAt, Skipped as IsSkipped}
 use Rattle.node_rules.specs.declared.taken.Taken.{Taken}
@@ -59,7 +60,8 @@ AgreesAt t log q i = AgreesWith t i (life_in q i) (before_slot log (suc (last_sl
 
 -- ---- how each incarnation follows it
 
--- A slot that is taken holds a value that was made before; what is left is the entry that the rules give where the value is kept.
+-- A slot that is taken holds a value that was made before, and so does one that is skipped, but for a Noop; what is left is the entry that the rules give
+-- where the value is kept.
 pub record TakenAs (t : Setup) (log : List Value) (p : Past) (i : Inc) (e : Entry) : Type 0 where
   pub value : value_at log e.slot ≡ Some e.value
   pub next : e.slot ≡ suc (last_slot (life_in p i))
@@ -75,6 +77,7 @@ pub record SkippedAs (t : Setup) (log : List Value) (p : Past) (i : Inc) (slot :
   pub value : value_at log slot ≡ Some v
   pub next : slot ≡ suc (last_slot (life_in p i))
   pub skipped : became (reading_of t (before_slot log slot)) v ≡ IsSkipped
+  pub made : is_noop v.what ≡ false → WasMade p v
 
 -- each incarnation takes or skips the next slot after its last one; a Welcome comes with the slot of its own Add
 abbrev pub Follows : Setup → List Value → Past → Inc → Did → Type 0

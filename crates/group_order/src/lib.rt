@@ -10,8 +10,9 @@ use order_laws::{
 
 /// In every run of the group some log has the value of each slot that an incarnation takes or skips, and no other slot; each takes the next slot
 /// after its last one. What it leaves of a slot is what the rules give from what the value became in the log: an entry, which but for the verdict
-/// is that of the log's list at its place, or a mark that the slot was skipped. A value that is taken was made before by its origin. A Welcome
-/// comes with the slot of the joiner's own Add. The view, the place and the open parts of each history are those of the list up to its last slot.
+/// is that of the log's list at its place, or a mark that the slot was skipped. A value that is taken, or skipped and no Noop, was made
+/// before by its origin. A Welcome comes with the slot of the joiner's own Add. The view, the place and the open parts of each history are those of
+/// the list up to its last slot.
 pub fn slots_are_of_one_log()
     ensures { EveryRunHasOne }
 {

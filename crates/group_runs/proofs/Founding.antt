@@ -14,7 +14,8 @@ use Rattle.group_rules.specs.Steps.{group_of, found}
 use Rattle.group_rules.specs.World.{World, Server, Past, life_in, nothing_stored, server_at, put_server, dids, found_at, found_all}
 use Rattle.group_bridge.specs.Moves.{slots_in}
 use Rattle.group_runs.specs.Runs.{Apart, IsSetup, is_founder, running_in, stored_in, AllDid, IsDone, TookIn, TookThen, OfSlots, HeardIn}
-use Rattle.group_runs.proofs.Pasts.{inc_same, inc_is, life_of_dids, life_of_others, running_of_others, did_map}
+use Rattle.node_rules.proofs.Incs.{inc_same, inc_is}
+use Rattle.group_runs.proofs.Pasts.{life_of_dids, life_of_others, running_of_others, did_map}
 use Rattle.group_runs.proofs.Servers.{put_same, put_other, put_cases, number_of}
 use Rattle.group_runs.proofs.Nodes.{no_event}
 use Rattle.group_runs.proofs.Inv.{inc_of, IsRunning, WasStarted, Inv}

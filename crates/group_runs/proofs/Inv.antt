@@ -49,6 +49,6 @@ pub record Inv (t : Setup) (w : World) (v : nodes.World) : Type 0 where
   pub took : AllDid (OfSlots (TookIn t v)) w.past
   pub mids : AllDid (OfSlots (TookThen t)) w.past
   pub heard : AllDid (HeardIn v) w.past
-  pub made : (u : Value) → In u v.made → (u.id.number ≡ 0) ⊎ WasMade w.past u
+  pub made : (u : Value) → In u v.made → WasMade w.past u
   pub slots : (i : Inc) → slots_by i v.took ≡ slots_in (life_in w.past i)
   pub done : AllDid (IsDone t) w.past

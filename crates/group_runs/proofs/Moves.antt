@@ -16,7 +16,7 @@ use Rattle.group_rules.specs.Steps.{group_of}
 use Rattle.group_rules.specs.World.{World, Server, new_world, nothing_stored, server_at, is_declared, running_of, member_at, is_member, runs, is_taken, is_group_taken, nothing_happens, declare, found_at, found_all, started, start_by, stop, stored_by, written, write_by, event_by, event_at, take_message, kth, Move, Declares, Founds, Starts, Stops, WritesRow, Takes, Happens, move, world_after}
 use Rattle.group_bridge.specs.Moves.{StepIsActs}
 use Rattle.group_runs.specs.Runs.{as_sent, EveryRun, IsSetup, running_in, stored_after, stored_in}
-use Rattle.group_runs.proofs.Pasts.{inc_is}
+use Rattle.node_rules.proofs.Incs.{inc_is}
 use Rattle.group_runs.proofs.Servers.{put_cases}
 use Rattle.group_runs.proofs.Inv.{Inv}
 use Rattle.group_runs.proofs.Stepped.{Laws, stepped_keeps}

@@ -12,12 +12,13 @@ use Rattle.node_rules.specs.declared.taken.Taken.{Taken}
 use Rattle.node_rules.specs.Lists.{In}
 use Rattle.node_rules.specs.Node.{Node, Effect, also, joiner}
 use Rattle.node_rules.specs.Step.{node_step}
-use Rattle.node_rules.specs.World.{World, Event, Act, Took, Owns, Campaigns, Ticks, Proposes, Takes, made_by, all_made_by, does_all, put_node, took_by, acted, makes, act_on, acts, hears, start_sent, add_of, starts, happens, start, run_from, run}
+use Rattle.node_rules.specs.World.{World, Event, Act, Took, Owns, Campaigns, Ticks, Proposes, Takes, made_by, all_made_by, does_all, put_node, took_by, acted, makes, act_on, acts, hears, start_sent, starts, happens, start, run_from, run}
 use Rattle.order_laws.specs.Laws.{slots_by}
 use Rattle.group_rules.specs.Events.{Setup}
 use Rattle.group_rules.specs.Steps.{group_of}
 use Rattle.group_runs.specs.Runs.{as_sent, IsNodeRun}
-use Rattle.group_runs.proofs.Pasts.{inc_same, inc_is, in_either}
+use Rattle.node_rules.proofs.Incs.{inc_same, inc_is}
+use Rattle.group_runs.proofs.Pasts.{in_either}
 
 run_more : (f : List Message → List Message) (g : Group) (es : List Event) (e : Event) (w : World) → run_from f g (es ++ e ∷ []) w ≡ happens f g (run_from f g es w) e
 run_more f g [] e w = refl
@@ -97,5 +98,5 @@ slots_of_other i j ts xs e = slots_append j ts (took_by i xs) ∙ (ap (λ l. slo
 
 -- ---- a start
 
-pub started_on : (g : Group) (v : World) (j : Joiner) (contact : Inc) → v.at j.inc ≡ None → starts g v j contact ≡ record v { at = put_node v.at j.inc (joiner g j.inc); wire = v.wire ++ start_sent j contact ∷ []; made = v.made ++ add_of j ∷ [] }
-started_on g v j contact h = ap (λ o. if is_some o then v else record v { at = put_node v.at j.inc (joiner g j.inc); wire = v.wire ++ start_sent j contact ∷ []; made = v.made ++ add_of j ∷ [] }) h
+pub started_on : (g : Group) (v : World) (j : Joiner) (contact : Inc) → v.at j.inc ≡ None → starts g v j contact ≡ record v { at = put_node v.at j.inc (joiner g j.inc); wire = v.wire ++ start_sent j contact ∷ [] }
+started_on g v j contact h = ap (λ o. if is_some o then v else record v { at = put_node v.at j.inc (joiner g j.inc); wire = v.wire ++ start_sent j contact ∷ [] }) h

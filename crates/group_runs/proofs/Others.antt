@@ -17,7 +17,8 @@ use Rattle.group_rules.specs.Steps.{group_of, start}
 use Rattle.group_rules.specs.World.{World, Server, Past, Does, Writes, Halts, life_in, nothing_stored, server_at, is_declared, joiner_of, put_server, nothing_happens, dids, declare, started, stop, stored_by, written}
 use Rattle.group_bridge.specs.Moves.{is_apart, slots_in}
 use Rattle.group_runs.specs.Runs.{as_sent, is_founder, running_in, stored_after, stored_in, WasSent, HeardIn}
-use Rattle.group_runs.proofs.Pasts.{inc_same, inc_is, in_left, in_either, life_of_dids, life_of_others, running_of_others, made_grows, did_map}
+use Rattle.node_rules.proofs.Incs.{inc_same, inc_is}
+use Rattle.group_runs.proofs.Pasts.{in_left, in_either, life_of_dids, life_of_others, running_of_others, made_grows, did_map}
 use Rattle.group_runs.proofs.Servers.{at_number, put_same, put_other, put_cases, number_of}
 use Rattle.group_runs.proofs.Nodes.{one_more, put_here, put_there, started_on}
 use Rattle.group_runs.proofs.Inv.{inc_of, IsRunning, WasStarted, Inv}
@@ -152,7 +153,7 @@ stopped_keeps t w v inv n s at_it = record {
   took = inv.took;
   mids = inv.mids;
   heard = inv.heard;
-  made = λ u h. elim (inv.made u h) [ inl z ↦ inl z | inr z ↦ inr (made_grows (Halts s.number ∷ []) w.past u z) ];
+  made = λ u h. made_grows (Halts s.number ∷ []) w.past u (inv.made u h);
   slots = inv.slots;
   done = inv.done;
 }
@@ -212,7 +213,7 @@ written_keeps t w v inv n s at_it idle item row = record {
   took = inv.took;
   mids = inv.mids;
   heard = inv.heard;
-  made = λ u h. elim (inv.made u h) [ inl z ↦ inl z | inr z ↦ inr (made_grows (Writes s.number x ∷ []) w.past u z) ];
+  made = λ u h. made_grows (Writes s.number x ∷ []) w.past u (inv.made u h);
   slots = inv.slots;
   done = inv.done;
 }
@@ -288,10 +289,7 @@ started_keeps t w v inv n s at_it idle via = (
     took = (tt, (tt, inv.took));
     mids = (tt, (tt, inv.mids));
     heard = (tt, (tt, did_map (HeardIn v) (HeardIn after) (heard_grows v after (λ m h. in_left m v.wire (nodes.start_sent j via.me.inc ∷ []) h)) w.past inv.heard));
-    made = λ u h. elim (in_either u v.made (nodes.add_of j ∷ []) h) [
-      | inl z ↦ elim (inv.made u z) [ inl k ↦ inl k | inr k ↦ inr (made_grows (dids j.inc a.life) w.past u k) ]
-      | inr z ↦ elim z [ inl q ↦ inl (subst (λ x. x.id.number ≡ 0) q refl) | inr q ↦ absurd q ]
-    ];
+    made = λ u h. made_grows (dids j.inc a.life) w.past u (inv.made u h);
     slots = λ i. elim (cases_Bool (inc_eq j.inc i)) [
       | inl q ↦ subst (λ z. slots_by z v.took ≡ slots_in (life_in past z)) (inc_is j.inc i q) (inv.slots j.inc ∙ (ap slots_in fresh ∙ sym (ap slots_in life_here)))
       | inr q ↦ inv.slots i ∙ sym (ap slots_in (life_of_others j.inc i a.life w.past q))
@@ -316,7 +314,7 @@ started_keeps t w v inv n s at_it idle via = (
     past = dids j.inc a.life ++ w.past
 
     after : nodes.World
-    after = record v { at = nodes.put_node v.at j.inc (joiner (group_of t) j.inc); wire = v.wire ++ nodes.start_sent j via.me.inc ∷ []; made = v.made ++ nodes.add_of j ∷ [] }
+    after = record v { at = nodes.put_node v.at j.inc (joiner (group_of t) j.inc); wire = v.wire ++ nodes.start_sent j via.me.inc ∷ [] }
 
     number : s.number ≡ n
     number = number_of w n s at_it

@@ -6,23 +6,12 @@ use Rattle.gr_ids.specs.Names.{inc_eq}
 use Rattle.gr_ids.specs.declared.names.Inc.{Inc}
 use Rattle.slot_values.specs.declared.value.Value.{Value}
 use Rattle.node_rules.specs.Lists.{In}
+use Rattle.node_rules.proofs.Incs.{inc_same, inc_is}
 use Rattle.group_rules.specs.Events.{Did, Made, Life}
 use Rattle.group_rules.specs.World.{Past, Does, Writes, Halts, life_in, dids}
 use Rattle.group_rules.specs.Legal.{IsPast, WasMade}
 use Rattle.group_bridge.specs.Moves.{Each}
 use Rattle.group_runs.specs.Runs.{AllDid, running_in}
-
--- ---- incarnations
-
-pub inc_same : (i : Inc) → inc_eq i i ≡ true
-inc_same i = and_from _ _ (eq-eqb i.server i.server refl) (eq-eqb i.start i.start refl)
-
-pub inc_is : (i j : Inc) → inc_eq i j ≡ true → i ≡ j
-inc_is i j h =
-    let x = and_parts (eqb i.server j.server) (eqb i.start j.start) h in
-    let a : i.server ≡ j.server = eqb-true i.server j.server x.0 in
-    let b : i.start ≡ j.start = eqb-true i.start j.start x.1 in
-    λ k. record { server = a k; start = b k }
 
 -- ---- lists
 

@@ -29,7 +29,8 @@ use Rattle.group_rules.specs.Legal.{IsPast, WasMade}
 use Rattle.group_bridge.specs.Left.{is_settled, IsAfterAll, IsSent, taken_left}
 use Rattle.group_bridge.specs.Moves.{is_apart, is_ask_or_give, slots_in, Each, IsAllowed, TookBy, TookRightly, SentBy, GreetedBy, IsActs, StepIsActs, cleared}
 use Rattle.group_runs.specs.Runs.{as_sent, running_in, stored_in, WasGreeted, WasTold, WasSentAs, WasSent, AllDid, IsActive, IsDone, IsNodeRun, TookIn, TookThen, OfSlots, HeardIn}
-use Rattle.group_runs.proofs.Pasts.{inc_is, take_more, in_left, in_right, in_either, in_map, life_of_dids, life_of_others, running_of_dids, running_of_others, past_of_more, past_grows, made_grows, did_map, did_more}
+use Rattle.node_rules.proofs.Incs.{inc_is}
+use Rattle.group_runs.proofs.Pasts.{take_more, in_left, in_right, in_either, in_map, life_of_dids, life_of_others, running_of_dids, running_of_others, past_of_more, past_grows, made_grows, did_map, did_more}
 use Rattle.group_runs.proofs.Servers.{put_same, put_other, put_cases, number_of}
 use Rattle.group_runs.proofs.Nodes.{one_more, acted_on, heard_on, index_of, put_here, put_there, all_made_own, slots_of_one, slots_of_other}
 use Rattle.group_runs.proofs.Inv.{inc_of, IsRunning, WasStarted, Inv}
@@ -263,10 +264,10 @@ module _ (t : Setup) (w : World) (v : nodes.World) (inv : Inv t w v) (number : �
   made_here : (u : Value) (rest : Life) → u.id.origin ≡ i → (holds : Option Body) × In (Made u holds) (rest ++ g.life) → WasMade (dids i rest ++ w.past) u
   made_here u rest o h = (h.0, subst (λ z. In (Does z (Made u h.0)) (dids i rest ++ w.past)) (sym o) (in_life i (Made u h.0) (dids i rest ++ w.past) (subst (λ l. In (Made u h.0) l) (sym (life_here rest)) h.1)))
 
-  made_by_acts : (l : List nodes.Act) (rest : Life) → ((u : Value) → In u (nodes.all_made_by i l) → (holds : Option Body) × In (Made u holds) (rest ++ g.life)) → (u : Value) → In u (v.made ++ nodes.all_made_by i l) → (u.id.number ≡ 0) ⊎ WasMade (dids i rest ++ w.past) u
+  made_by_acts : (l : List nodes.Act) (rest : Life) → ((u : Value) → In u (nodes.all_made_by i l) → (holds : Option Body) × In (Made u holds) (rest ++ g.life)) → (u : Value) → In u (v.made ++ nodes.all_made_by i l) → WasMade (dids i rest ++ w.past) u
   made_by_acts l rest k u h = elim (in_either u v.made (nodes.all_made_by i l) h) [
-    | inl z ↦ elim (inv.made u z) [ inl y ↦ inl y | inr y ↦ inr (made_grows (dids i rest) w.past u y) ]
-    | inr z ↦ inr (made_here u rest (all_made_own i l u z) (k u z))
+    | inl z ↦ made_grows (dids i rest) w.past u (inv.made u z)
+    | inr z ↦ made_here u rest (all_made_own i l u z) (k u z)
   ]
 
   -- ---- slots

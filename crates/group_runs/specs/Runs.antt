@@ -143,7 +143,7 @@ pub record TookThen (t : Setup) (p : Past) (i : Inc) (d : Did) : Type 0 where
   pub world : nodes.World
   pub run : IsNodeRun t world
   pub took : TookIn t world p i d
-  pub made : (v : Value) → In v world.made → (v.id.number ≡ 0) ⊎ WasMade p v
+  pub made : (v : Value) → In v world.made → WasMade p v
 
 abbrev pub OfSlots : (Past → Inc → Did → Type 0) → Past → Inc → Did → Type 0
 OfSlots P p i (Took e) = P p i (Took e)

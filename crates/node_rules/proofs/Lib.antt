@@ -1,3 +1,5 @@
+pub mod Incs
+pub mod IncOrder
 mod Rows
 mod Parts
 mod Welcomes

@@ -1,5 +1,6 @@
 pub mod Names
 pub mod Lists
+pub mod Order
 pub mod Slots
 pub mod Acceptor
 pub mod Learner

@@ -106,7 +106,7 @@ abbrev pub hears : (List Message → List Message) → World → List Act → Op
 hears arrange w l None = w
 hears arrange w l (Some m) = acts arrange w m.to l (node_step (Heard m))
 
--- the Add that a joiner sends to its contact; it has no number yet
+-- The Add that a joiner sends to its contact. It has no number yet, and no slot takes it: the contact makes a value of its own of it.
 abbrev pub add_of : Joiner → Value
 add_of j = record { id = record { origin = j.inc; number = 0 }; what = Add j }
 
@@ -117,7 +117,7 @@ start_sent j contact = record { from = j.inc; to = contact; wire = Offer (add_of
 abbrev pub starts : Group → World → Joiner → Inc → World
 starts g w j contact =
     if is_some (w.at j.inc) then w
-    else record w { at = put_node w.at j.inc (joiner g j.inc); wire = w.wire ++ start_sent j contact ∷ []; made = w.made ++ add_of j ∷ [] }
+    else record w { at = put_node w.at j.inc (joiner g j.inc); wire = w.wire ++ start_sent j contact ∷ [] }
 
 abbrev pub happens : (List Message → List Message) → Group → World → Event → World
 happens arrange g w (Hears k l) = hears arrange w l (slice_get w.wire k)

@@ -16,7 +16,8 @@ use Rattle.node_rules.specs.Voting.{promises, votes, still_leads, gone_to, hear_
 use Rattle.node_rules.specs.World.{Took, put_node, casts_by, took_by}
 use Rattle.order_laws.specs.Names.{Inc, Ballot, Value, Vote, Promise, Accepted, Gone, Message}
 use Rattle.slot_values.specs.Log.{Group, Turns}
-use Rattle.order_laws.proofs.Order.{inc-eq, lt_same, le_trans, le_round, le_both}
+use Rattle.node_rules.proofs.Incs.{inc_is}
+use Rattle.order_laws.proofs.Order.{lt_same, le_trans, le_round, le_both}
 use Rattle.order_laws.proofs.Lists.{in_last, at_slot-from, at_slot-slot, at_slot-in}
 use Rattle.order_laws.proofs.Agree.{Report}
 use Rattle.order_laws.proofs.Inv.{Nodes, NextFrom, Ranked, AcceptorOk, LearnerOk, LeaderOk, NodeOk, PromiseOk, MsgOk, Inv, put_same, put_twice, put_rises, next_rises, leader_rises, silent}
@@ -34,7 +35,7 @@ pub put_here : (at : Nodes) (i : Inc) (n : Node) → at i ≡ Some n → put_nod
 put_here at i n h = fun_ext (λ j. go j (inc_eq i j) refl)
   where
     go : (j : Inc) (b : Bool) → inc_eq i j ≡ b → put_node at i n j ≡ at j
-    go j true e = rw e (sym h ∙ ap at (inc-eq i j e))
+    go j true e = rw e (sym h ∙ ap at (inc_is i j e))
     go j false e = rw e
 
 -- the invariant holds once this incarnation did the act

@@ -14,7 +14,8 @@ use Rattle.node_rules.specs.World.{Took, put_node}
 use Rattle.order_laws.specs.Names.{Taken, Inc, Ballot, Value, Joiner, Add, Vote, Welcome, Wire, Prepare, Promise, Accept, Accepted, Learn, Offer, Greet, Ask, Give, Alive, Gone, Message}
 use Rattle.slot_values.specs.Log.{Group, config, after, became, is_kept, has_effect, Turns, Reading}
 use Rattle.slot_values.specs.Turns.{resumed}
-use Rattle.order_laws.proofs.Order.{inc-eq, inc_same, lt_same, le_trans}
+use Rattle.node_rules.proofs.Incs.{inc_is, inc_same}
+use Rattle.order_laws.proofs.Order.{lt_same, le_trans}
 use Rattle.order_laws.proofs.Lists.{in_append}
 use Rattle.order_laws.proofs.Agree.{Decided, LogDecided, Report, Supported, Sound}
 
@@ -170,7 +171,7 @@ pub put_cases : (at : Nodes) (i : Inc) (n : Node) (j : Inc) (m : Node) → put_n
 put_cases at i n j m h = go (inc_eq i j) refl
   where
     go : (b : Bool) → inc_eq i j ≡ b → ((i ≡ j) × (n ≡ m)) ⊎ ((inc_eq i j ≡ false) × (at j ≡ Some m))
-    go true e = let k : Some n ≡ Some m = rw e at h in let f : n ≡ m = cc in inl (inc-eq i j e, f)
+    go true e = let k : Some n ≡ Some m = rw e at h in let f : n ≡ m = cc in inl (inc_is i j e, f)
     go false e = inr (e, rw e at h)
 
 pub put_twice : (at : Nodes) (i : Inc) (n m : Node) → put_node (put_node at i n) i m ≡ put_node at i m
@@ -190,7 +191,7 @@ put_rises at i n m here up nx j x h = go (inc_eq i j) refl
   where
     go : (b : Bool) → inc_eq i j ≡ b → (y : Node) × (put_node at i m j ≡ Some y) × (ballot_lt y.acceptor.promise x.acceptor.promise ≡ false) × (x.learner.next ≤ y.learner.next)
     go true e =
-        let ij : i ≡ j = inc-eq i j e in
+        let ij : i ≡ j = inc_is i j e in
         let k : Some n ≡ Some x = sym here ∙ ap at ij ∙ h in
         let f : n ≡ x = cc in
         (m, rw e refl, subst (λ z. ballot_lt m.acceptor.promise z.acceptor.promise ≡ false) f up, subst (λ z. z.learner.next ≤ m.learner.next) f nx)

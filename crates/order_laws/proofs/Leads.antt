@@ -15,7 +15,8 @@ use Rattle.node_rules.specs.Slots.{at_slot, put_slot, Entry, entry_at, first_emp
 use Rattle.node_rules.specs.World.{Took, put_node}
 use Rattle.order_laws.specs.Names.{Inc, Ballot, Value, Vote, Wire, Learn, Message}
 use Rattle.slot_values.specs.Log.{Group, config, majority, with_inc, Turns, config_of}
-use Rattle.order_laws.proofs.Order.{inc-eq, ballot-eq, lt_same}
+use Rattle.node_rules.proofs.Incs.{inc_is}
+use Rattle.order_laws.proofs.Order.{ballot-eq, lt_same}
 use Rattle.order_laws.proofs.Lists.{in_push, in_put, majority_more, has-cast, at_slot-put_same, at_slot-put_other, at_slot-slot, at_slot-in, in_map}
 use Rattle.order_laws.proofs.Agree.{Decided, decided, LogDecided}
 use Rattle.order_laws.proofs.Inv.{Nodes, Stands, LearnerOk, KeptOk, LeaderOk, NodeOk, PromiseOk, WireOk, MsgOk, Inv, put_same, put_twice, put_rises, leader_rises, silent}
@@ -28,11 +29,11 @@ others_ok g at cs i n is y e ok x h =
     subst (λ z. MsgOk g at cs z) r.2 (subst (λ z. WireOk g at cs z r.0 y) (sym e) (ok r.0))
 
 pub with-inc : (xs : List Inc) (i a : Inc) → has_inc (with_inc xs i) a ≡ true → (i ≡ a) ⊎ (has_inc xs a ≡ true)
-with-inc [] i a h = elim (or_cases (inc_eq i a) false h) [ inl e ↦ inl (inc-eq i a e) | inr e ↦ absurd (false≢true e) ]
+with-inc [] i a h = elim (or_cases (inc_eq i a) false h) [ inl e ↦ inl (inc_is i a e) | inr e ↦ absurd (false≢true e) ]
 with-inc (x ∷ xs) i a h = go (inc_lt i x) (inc_eq i x) refl refl (with-inc xs i a)
   where
     go : (u v : Bool) → inc_lt i x ≡ u → inc_eq i x ≡ v → (has_inc (with_inc xs i) a ≡ true → (i ≡ a) ⊎ (has_inc xs a ≡ true)) → (i ≡ a) ⊎ (has_inc (x ∷ xs) a ≡ true)
-    go true v e f r = let k : has_inc (i ∷ x ∷ xs) a ≡ true = rw e at h in elim (or_cases (inc_eq i a) (has_inc (x ∷ xs) a) k) [ inl q ↦ inl (inc-eq i a q) | inr q ↦ inr q ]
+    go true v e f r = let k : has_inc (i ∷ x ∷ xs) a ≡ true = rw e at h in elim (or_cases (inc_eq i a) (has_inc (x ∷ xs) a) k) [ inl q ↦ inl (inc_is i a q) | inr q ↦ inr q ]
     go false true e f r = let k : has_inc (x ∷ xs) a ≡ true = rw (e, f) at h in inr k
     go false false e f r =
         let k : has_inc (x ∷ with_inc xs i) a ≡ true = rw (e, f) at h in

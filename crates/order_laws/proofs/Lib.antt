@@ -1,15 +1,15 @@
 mod Order
-mod Lists
+pub mod Lists
 mod Agree
 mod Inv
 mod Votes
-mod Acts
-mod Leads
+pub mod Acts
+pub mod Leads
 mod Proposes
 mod Logs
-mod Takes
+pub mod Takes
 mod Steps
-mod Runs
+pub mod Runs
 mod Keeps
 mod Taken
 mod Made

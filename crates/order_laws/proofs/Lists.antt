@@ -13,7 +13,8 @@ use Rattle.order_laws.specs.Names.{Inc, Vote}
 use Rattle.slot_values.specs.Log.{majority}
 use Rattle.std.proofs.Common.{leb}
 use Rattle.std.proofs.lemmas.Bool.{leb-false}
-use Rattle.order_laws.proofs.Order.{inc-eq, inc_same, cast-eq, cast_same, lt_same, lt_le, le_trans}
+use Rattle.node_rules.proofs.Incs.{inc_is, inc_same}
+use Rattle.order_laws.proofs.Order.{cast-eq, cast_same, lt_same, lt_le, le_trans}
 
 pub in_left : {A : Type 0} (x : A) (xs ys : List A) → In x xs → In x (xs ++ ys)
 in_left x [] ys h = absurd h
@@ -46,7 +47,7 @@ has-cast (x ∷ cs) c (inr h) = or_right _ _ (has-cast cs c h)
 
 pub inc-in : (cs : List Inc) (c : Inc) → has_inc cs c ≡ true → In c cs
 inc-in [] c h = absurd (false≢true h)
-inc-in (x ∷ cs) c h = elim (or_cases (inc_eq x c) (has_inc cs c) h) [ inl e ↦ inl (inc-eq x c e) | inr e ↦ inr (inc-in cs c e) ]
+inc-in (x ∷ cs) c h = elim (or_cases (inc_eq x c) (has_inc cs c) h) [ inl e ↦ inl (inc_is x c e) | inr e ↦ inr (inc-in cs c e) ]
 
 pub has-inc : (cs : List Inc) (c : Inc) → In c cs → has_inc cs c ≡ true
 has-inc [] c h = absurd h
@@ -56,7 +57,7 @@ has-inc (x ∷ cs) c (inr h) = or_right _ _ (has-inc cs c h)
 -- a promise of this incarnation is kept
 pub promise-in : (ps : List Promised) (i : Inc) → has_promise ps i ≡ true → (p : Promised) × In p ps × (p.inc ≡ i)
 promise-in [] i h = absurd (false≢true h)
-promise-in (x ∷ ps) i h = elim (or_cases (inc_eq x.inc i) (has_promise ps i) h) [ inl e ↦ (x, inl refl, inc-eq x.inc i e) | inr e ↦ let r = promise-in ps i e in (r.0, inr r.1, r.2) ]
+promise-in (x ∷ ps) i h = elim (or_cases (inc_eq x.inc i) (has_promise ps i) h) [ inl e ↦ (x, inl refl, inc_is x.inc i e) | inr e ↦ let r = promise-in ps i e in (r.0, inr r.1, r.2) ]
 
 -- ---- two majorities share a member
 

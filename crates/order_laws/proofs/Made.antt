@@ -1,7 +1,7 @@
--- No act invents a value but a Noop: each value anywhere was made by its origin.
-use Rattle.std.proofs.Common.{◌≡◌, ℕ, zero, suc, ◌+◌, ◌-◌, ◌^◌, Bool, true, false, not, cond, ◌⊎◌, inl, inr, ◌||◌, ◌&&◌, Option, Some, None, List, [], ◌∷◌, ◌++◌, ltb, leb, eqb, refl, subst}
+-- No act invents a value but a Noop: each value anywhere was made by its origin, but for an Offer that has no number.
+use Rattle.std.proofs.Common.{◌≡◌, ℕ, zero, suc, ◌+◌, ◌-◌, ◌^◌, Bool, true, false, not, cond, ◌⊎◌, inl, inr, ◌||◌, ◌&&◌, Option, Some, None, List, [], ◌∷◌, ◌++◌, ltb, leb, eqb, refl, sym, ◌∙◌, subst}
 use Rattle.std.specs.Prelude.{slice_get, is_some, map, filter, flat_map, fold, option_map}
-use Rattle.std.proofs.lemmas.Bool.{cases_Bool, cond_both}
+use Rattle.std.proofs.lemmas.Bool.{false≢true, cases_Bool, cond_both}
 use Rattle.gr_ids.specs.Names.{ballot_eq, ballot_lt, has_inc, inc_eq}
 use Rattle.node_rules.specs.Acceptor.{promising, votes_from, forget_votes}
 use Rattle.node_rules.specs.Known.{members_by, ever_by, config_here, last_by}
@@ -17,11 +17,11 @@ use Rattle.node_rules.specs.Taking.{least_told, forget, forgets, take_next, take
 use Rattle.node_rules.specs.Ticks.{prepares_again, accepts_again, lead_tick, tick}
 use Rattle.node_rules.specs.Voting.{promises, votes, gone_to, hear_prepare, hear_accept}
 use Rattle.node_rules.specs.Welcoming.{Shown, welcome_of, is_in_order, is_for, higher_ballot, welcomed, hear_welcome}
-use Rattle.node_rules.specs.World.{World, Took, Act, Owns, Campaigns, Ticks, Proposes, Takes, Event, Hears, Does, Starts, Ends, greet_by, greets, takes, does, does_all, made_by, all_made_by, Arranges, put_node, took_by, acted, makes, act_on, acts, hears, add_of, start_sent, starts, happens, start, run_from, run}
+use Rattle.node_rules.specs.World.{World, Took, Act, Owns, Campaigns, Ticks, Proposes, Takes, Event, Hears, Does, Starts, Ends, greet_by, greets, takes, does, does_all, made_by, all_made_by, Arranges, put_node, took_by, acted, makes, act_on, acts, hears, start_sent, starts, happens, start, run_from, run}
 use Rattle.order_laws.specs.Laws.{InEveryRun, MadeBefore}
 use Rattle.order_laws.specs.Names.{Taken, PaxosEvent, Heard, Own, Campaign, Tick, Propose, Inc, Ballot, Value, What, Noop, Add, Remove, Body, Joiner, Vote, Message, Wire, Prepare, Promise, Accept, Accepted, Learn, Offer, Greet, Ask, Give, Alive, Gone, Welcome}
 use Rattle.slot_values.specs.Log.{Group, Turns, turn, last_in, forget_configs}
-use Rattle.order_laws.proofs.Lists.{in_right, in_left, in_append, in_push, in_last, in_put, in_from, in_map, in_filter, in_flat, at_slot-in, best_real}
+use Rattle.order_laws.proofs.Lists.{in_right, in_left, in_append, in_push, in_put, in_from, in_map, in_filter, in_flat, at_slot-in, best_real}
 use Rattle.order_laws.proofs.Inv.{Nodes, put_cases}
 use Rattle.order_laws.proofs.Acts.{append_nil, still_led}
 use Rattle.order_laws.proofs.Takes.{next-entry}
@@ -46,7 +46,7 @@ module _ (P : Value → Type 0) (noops : (v : Value) → v.what ≡ Noop → P v
   WireVals (Promise b s xs) = (x : Vote) → In x xs → P x.value
   WireVals (Accept b t v) = P v
   WireVals (Learn t v) = P v
-  WireVals (Offer v) = P v
+  WireVals (Offer v) = (eqb v.id.number 0 ≡ true) ⊎ P v
   WireVals (Prepare b s) = Unit {0}
   WireVals (Accepted b t) = Unit {0}
   WireVals (Greet x) = Unit {0}
@@ -241,7 +241,7 @@ module _ (P : Value → Type 0) (noops : (v : Value) → v.what ≡ Noop → P v
   out_vals n vs p m =
       let out : List Message = map (λ v. message n n.acceptor.promise.inc (Offer v)) vs in
       cond_both (eqb n.acceptor.promise.round 0 || inc_eq n.acceptor.promise.inc n.me) [] (map (λ v. message n n.acceptor.promise.inc (Offer v)) vs) (λ ms. In m ms → WireVals m.wire) (λ e h. absurd h)
-      (λ e h. let r = in_map (λ v. message n n.acceptor.promise.inc (Offer v)) vs m h in subst (λ z. WireVals z.wire) r.2 (p r.0 r.1))
+      (λ e h. let r = in_map (λ v. message n n.acceptor.promise.inc (Offer v)) vs m h in subst (λ z. WireVals z.wire) r.2 (inr (p r.0 r.1)))
 
   vals_offers : (vs : List Value) (n : Node) (o : Option Leader) → n.leader ≡ o → ((v : Value) → In v vs → P v) → NodeVals n → Vals (offers vs n o)
   vals_offers vs n None e p k = vals_sends n (offers_out n vs) k (out_vals n vs p)
@@ -256,13 +256,15 @@ module _ (P : Value → Type 0) (noops : (v : Value) → v.what ≡ Noop → P v
       vals_offers (v ∷ []) (record n { own = n.own ++ v ∷ [] }) n.leader refl (one_value v p)
       (record { votes = k.votes; decided = k.decided; own = λ x h. elim (in_push x n.own v h) [ inl q ↦ k.own x q | inr e ↦ subst (λ z. P z) e p ]; leader = k.leader })
 
-  vals_offer : (v : Value) (n : Node) → P v → NodeVals n → Vals (hear_offer v n)
+  -- one that has no number is passed over
+  vals_offer : (v : Value) (n : Node) → (eqb v.id.number 0 ≡ true) ⊎ P v → NodeVals n → Vals (hear_offer v n)
   unfolding hear_offer
-  vals_offer v n p k = vals_if (eqb v.id.number 0) _ _ (vals_quiet n k) (go n.leader refl)
+  vals_offer v n p k = cond_both (eqb v.id.number 0) (quiet n) (lead_offer v n n.leader) (λ e. Vals e) (λ h. vals_quiet n k)
+      (λ h. elim p [ inl q ↦ absurd (false≢true (sym h ∙ q)) | inr q ↦ go q n.leader refl ])
     where
-      go : (o : Option Leader) → n.leader ≡ o → Vals (lead_offer v n o)
-      go None e = vals_quiet n k
-      go (Some l) e = vals_leads n (fold (take_offer (is_decided n.learner) (last_by n.turns)) l (v ∷ [])) k (offers_vals (is_decided n.learner) (last_by n.turns) (v ∷ []) l (one_value v p) (k.leader l e))
+      go : P v → (o : Option Leader) → n.leader ≡ o → Vals (lead_offer v n o)
+      go q None e = vals_quiet n k
+      go q (Some l) e = vals_leads n (fold (take_offer (is_decided n.learner) (last_by n.turns)) l (v ∷ [])) k (offers_vals (is_decided n.learner) (last_by n.turns) (v ∷ []) l (one_value v q) (k.leader l e))
 
   vals_campaign : (n : Node) → NodeVals n → Vals (campaign n)
   unfolding campaign
@@ -447,7 +449,7 @@ module _ (P Q : Value → Type 0) (np : (v : Value) → v.what ≡ Noop → P v)
   wire_more (Promise b s xs) k = λ x h. more x.value (k x h)
   wire_more (Accept b t v) k = more v k
   wire_more (Learn t v) k = more v k
-  wire_more (Offer v) k = more v k
+  wire_more (Offer v) k = elim k [ inl z ↦ inl z | inr z ↦ inr (more v z) ]
   wire_more (Prepare b s) k = tt
   wire_more (Accepted b t) k = tt
   wire_more (Greet x) k = tt
@@ -490,22 +492,19 @@ made_acts arrange ok w i l f v step = go (w.at i) refl
 made_starts : (g : Group) (w : World) (j : Joiner) (contact : Inc) → MadeIn w → MadeIn (starts g w j contact)
 made_starts g w j contact v = go (is_some (w.at j.inc)) refl
   where
-    u : World
-    u = makes w (add_of j ∷ [])
-
     e : Effect
     e = record { node = joiner g j.inc; sent = start_sent j contact ∷ []; cast = []; took = [] }
 
-    new : WorldVals (Made (w.made ++ add_of j ∷ [])) (noop_made (w.made ++ add_of j ∷ [])) (put_node w.at j.inc (joiner g j.inc)) (w.wire ++ start_sent j contact ∷ []) (w.took ++ [])
-    new = world_acted (Made (w.made ++ add_of j ∷ [])) (noop_made (w.made ++ add_of j ∷ [])) w.at w.wire (start_sent j contact ∷ []) w.took j.inc e (makes_more w (add_of j ∷ []) v) (record {
+    new : WorldVals (Made w.made) (noop_made w.made) (put_node w.at j.inc (joiner g j.inc)) (w.wire ++ start_sent j contact ∷ []) (w.took ++ [])
+    new = world_acted (Made w.made) (noop_made w.made) w.at w.wire (start_sent j contact ∷ []) w.took j.inc e v (record {
       node = record { votes = λ x q. absurd q; decided = λ x q. absurd q; own = λ x q. absurd q; leader = λ l q. absurd (cc) };
-      sent = λ m q. elim q [ inl z ↦ subst (λ y. WireVals (Made (w.made ++ add_of j ∷ [])) (noop_made (w.made ++ add_of j ∷ [])) y.wire) z (inr (in_last w.made (add_of j))) | inr b ↦ absurd b ];
+      sent = λ m q. elim q [ inl z ↦ subst (λ y. WireVals (Made w.made) (noop_made w.made) y.wire) z (inl refl) | inr b ↦ absurd b ];
       took = λ x q. absurd q;
     }) (λ m q. q)
 
     go : (b : Bool) → is_some (w.at j.inc) ≡ b → MadeIn (starts g w j contact)
     go true q = rw q v
-    go false q = rw q (subst (λ z. WorldVals (Made (w.made ++ add_of j ∷ [])) (noop_made (w.made ++ add_of j ∷ [])) (put_node w.at j.inc (joiner g j.inc)) (w.wire ++ start_sent j contact ∷ []) z) (append_nil w.took) new)
+    go false q = rw q (subst (λ z. WorldVals (Made w.made) (noop_made w.made) (put_node w.at j.inc (joiner g j.inc)) (w.wire ++ start_sent j contact ∷ []) z) (append_nil w.took) new)
 
 made_event : (arrange : List Message → List Message) → Arranges arrange → (g : Group) (w : World) (e : Event) → MadeIn w → MadeIn (happens arrange g w e)
 made_event arrange ok g w (Hears k l) v = go (slice_get w.wire k) refl

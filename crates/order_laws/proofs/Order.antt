@@ -5,25 +5,16 @@ use Rattle.std.proofs.lemmas.Bool.Decides.{nat_tests}
 use Rattle.std.proofs.lemmas.Slice.Eq.{bytes_eq-Decides}
 use Rattle.std.specs.Str.{bytes_eq}
 use Rattle.gr_ids.specs.Names.{inc_eq, ballot_eq, ballot_lt, id_eq}
+use Rattle.node_rules.proofs.Incs.{inc_same, inc_is}
 use Rattle.node_rules.specs.Chosen.{Cast, cast_eq}
 use Rattle.order_laws.specs.Names.{Inc, Ballot, Value, ValueId, What, Noop, Add, Remove, Body, Joiner, Vote}
 use Rattle.slot_values.specs.Values.{joiner_eq, what_eq, value_eq, vote_eq}
-
-pub inc-eq : (i j : Inc) → inc_eq i j ≡ true → i ≡ j
-inc-eq i j h =
-    let p = and_parts (eqb i.server j.server) (eqb i.start j.start) h in
-    let s : i.server ≡ j.server = eqb-true _ _ p.0 in
-    let t : i.start ≡ j.start = eqb-true _ _ p.1 in
-    λ k. record { server = s k; start = t k }
-
-pub inc_same : (i : Inc) → inc_eq i i ≡ true
-inc_same i = and_from _ _ (eq-eqb i.server i.server refl) (eq-eqb i.start i.start refl)
 
 pub ballot-eq : (a b : Ballot) → ballot_eq a b ≡ true → a ≡ b
 ballot-eq a b h =
     let p = and_parts (eqb a.round b.round) (inc_eq a.inc b.inc) h in
     let s : a.round ≡ b.round = eqb-true _ _ p.0 in
-    let t : a.inc ≡ b.inc = inc-eq _ _ p.1 in
+    let t : a.inc ≡ b.inc = inc_is _ _ p.1 in
     λ k. record { round = s k; inc = t k }
 
 pub ballot_same : (a : Ballot) → ballot_eq a a ≡ true
@@ -126,7 +117,7 @@ joiner-eq x y h =
     let p = and_parts (inc_eq x.inc y.inc && bytes_eq x.uuid y.uuid) (bytes_eq x.version y.version && eqb x.weight y.weight) h in
     let q = and_parts (inc_eq x.inc y.inc) (bytes_eq x.uuid y.uuid) p.0 in
     let r = and_parts (bytes_eq x.version y.version) (eqb x.weight y.weight) p.1 in
-    let a : x.inc ≡ y.inc = inc-eq _ _ q.0 in
+    let a : x.inc ≡ y.inc = inc_is _ _ q.0 in
     let b : x.uuid ≡ y.uuid = bytes-eq _ _ q.1 in
     let c : x.version ≡ y.version = bytes-eq _ _ r.0 in
     let d : x.weight ≡ y.weight = eqb-true _ _ r.1 in
@@ -138,7 +129,7 @@ joiner_same x = and_from _ _ (and_from _ _ (inc_same x.inc) (bytes_same x.uuid))
 what-eq : (x y : What) → what_eq x y ≡ true → x ≡ y
 what-eq Noop Noop h = refl
 what-eq (Add x) (Add y) h = ap Add (joiner-eq x y h)
-what-eq (Remove x) (Remove y) h = ap Remove (inc-eq x y h)
+what-eq (Remove x) (Remove y) h = ap Remove (inc_is x y h)
 what-eq (Body x) (Body y) h = ap Body (bytes-eq x y h)
 what-eq Noop (Add y) h = absurd (false≢true h)
 what-eq Noop (Remove y) h = absurd (false≢true h)
@@ -162,7 +153,7 @@ what_same (Body x) = bytes_same x
 id-eq : (x y : ValueId) → id_eq x y ≡ true → x ≡ y
 id-eq x y h =
     let p = and_parts (inc_eq x.origin y.origin) (eqb x.number y.number) h in
-    let a : x.origin ≡ y.origin = inc-eq _ _ p.0 in
+    let a : x.origin ≡ y.origin = inc_is _ _ p.0 in
     let b : x.number ≡ y.number = eqb-true _ _ p.1 in
     λ k. record { origin = a k; number = b k }
 
@@ -188,7 +179,7 @@ vote-eq x y h =
 pub cast-eq : (x y : Cast) → cast_eq x y ≡ true → x ≡ y
 cast-eq x y h =
     let p = and_parts (inc_eq x.by y.by) (vote_eq x.vote y.vote) h in
-    let a : x.by ≡ y.by = inc-eq _ _ p.0 in
+    let a : x.by ≡ y.by = inc_is _ _ p.0 in
     let b : x.vote ≡ y.vote = vote-eq _ _ p.1 in
     λ k. record { by = a k; vote = b k }
 

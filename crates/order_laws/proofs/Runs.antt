@@ -12,7 +12,8 @@ use Rattle.node_rules.specs.World.{World, Took, Act, Event, Hears, Does, Starts,
 use Rattle.order_laws.specs.Names.{Heard, Inc, Ballot, Value, Joiner, Message}
 use Rattle.order_laws.specs.Laws.{InEveryRun, AtMostOneChosen, OneLog, TakenAlike, KeptAsInLog, Follows}
 use Rattle.slot_values.specs.Log.{Group, config, after, incs, first_turns}
-use Rattle.order_laws.proofs.Order.{inc-eq, lt_same}
+use Rattle.node_rules.proofs.Incs.{inc_is}
+use Rattle.order_laws.proofs.Order.{lt_same}
 use Rattle.order_laws.proofs.Lists.{in_left, in_right, in_append, in_push}
 use Rattle.order_laws.proofs.Agree.{Decided, agree, chosen_once, logs_agree, log_chosen, decided_chosen}
 use Rattle.order_laws.proofs.Inv.{Nodes, Stands, LeaderOk, NodeOk, MsgOk, Inv, sound_of, put_cases, Rises, node_rises, wire_rises, backed_rises, wire_fewer}
@@ -67,7 +68,7 @@ inv_starts g at ws cs ts i x inv none said = record {
 
     r : Rises at at'
     r j n h = elim (cases_Bool (inc_eq i j)) [
-      | inl e ↦ let f : None ≡ Some n = sym none ∙ ap at (inc-eq i j e) ∙ h in absurd (cc)
+      | inl e ↦ let f : None ≡ Some n = sym none ∙ ap at (inc_is i j e) ∙ h in absurd (cc)
       | inr e ↦ (n, rw e h, lt_same n.acceptor.promise, omega arith)
     ]
 
@@ -152,7 +153,7 @@ founder_ok g at i = record {
     lead true f l e =
         let z : new_leader (first_ballot g) [] ≡ l = cc in
         subst (λ y. LeaderOk g at [] i (first_ballot g) 1 1 y) z (record {
-          mine = sym (inc-eq i (first_inc g.founders) f);
+          mine = sym (inc_is i (first_inc g.founders) f);
           top = refl;
           ranked = inl refl;
           knows = λ a t v h lo. absurd h;

@@ -19,7 +19,7 @@ use Rattle.node_rules.specs.World.{World, Took, Act, Owns, Campaigns, Ticks, Pro
 use Rattle.order_laws.specs.Laws.{InEveryRun, slots_by, count_up, AddedIn, Consecutive}
 use Rattle.order_laws.specs.Names.{Taken, PaxosEvent, Heard, Own, Campaign, Tick, Propose, Inc, Joiner, Welcome, Wire, Prepare, Promise, Accept, Accepted, Learn, Offer, Greet, Ask, Give, Alive, Gone, Message}
 use Rattle.slot_values.specs.Log.{Group, Turns, became}
-use Rattle.order_laws.proofs.Order.{inc_same}
+use Rattle.node_rules.proofs.Incs.{inc_same}
 use Rattle.order_laws.proofs.Lists.{in_left, at_slot-slot}
 use Rattle.order_laws.proofs.Agree.{Decided, log_chosen}
 use Rattle.order_laws.proofs.Inv.{Nodes, Begun, WireOk, Inv, sound_of, put_cases, put_same, put_twice}

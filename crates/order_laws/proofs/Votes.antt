@@ -12,7 +12,8 @@ use Rattle.node_rules.specs.Slots.{put_slot}
 use Rattle.node_rules.specs.World.{Took, put_node}
 use Rattle.order_laws.specs.Names.{Taken, Inc, Ballot, Value, Vote, Welcome, Wire, Prepare, Promise, Accept, Accepted, Learn, Offer, Greet, Ask, Give, Alive, Gone, Message}
 use Rattle.slot_values.specs.Log.{Group, config, Turns}
-use Rattle.order_laws.proofs.Order.{inc_same, lt_same, le_trans}
+use Rattle.node_rules.proofs.Incs.{inc_same}
+use Rattle.order_laws.proofs.Order.{lt_same, le_trans}
 use Rattle.order_laws.proofs.Lists.{in_left, in_push, in_last, in_put, majority_more, cast-in, has-cast, at_slot-put_same, at_slot-put_other}
 use Rattle.order_laws.proofs.Agree.{Decided, decided, LogDecided, Report}
 use Rattle.order_laws.proofs.Inv.{Nodes, Upto, Begun, TookWell, Stands, Greeted, Ranked, AcceptorOk, LearnerOk, KeptOk, LeaderOk, NodeOk, WireOk, Backed, Inv, put_same, put_cases, Rises, put_rises, node_rises, wire_rises, backed_rises}

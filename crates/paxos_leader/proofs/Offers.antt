@@ -10,10 +10,11 @@ use Rattle.gr_ids.specs.declared.names.Inc.{Inc}
 use Rattle.node_rules.specs.Leader.{Leader, has_id, is_proposed, take_offer}
 use Rattle.indexmap.specs.IndexMap.{insert_entry}
 use Rattle.paxos_leader.specs.Parts.{offer_of}
-use Rattle.paxos_leader.proofs.Ordered.{eqb_sym, inc_eq_sym}
+use Rattle.node_rules.proofs.Incs.{inc_back}
+use Rattle.paxos_leader.proofs.Ordered.{eqb_sym}
 
 id_eq_sym : (x y : ValueId) → id_eq x y ≡ id_eq y x
-id_eq_sym x y = λ k. inc_eq_sym x.origin y.origin k && eqb_sym x.number y.number k
+id_eq_sym x y = λ k. inc_back x.origin y.origin k && eqb_sym x.number y.number k
 
 pub offered : (es : List (ValueId × What)) (x : ValueId) → is_some (lookup (λ k. id_eq x k) es) ≡ has_id (map offer_of es) x
 offered [] x = refl

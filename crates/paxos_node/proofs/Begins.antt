@@ -8,17 +8,10 @@ use Rattle.gr_ids.specs.Names.{inc_eq}
 use Rattle.slot_values.specs.Log.{incs}
 use Rattle.node_rules.specs.Names.{Welcome, WelcomeMember}
 use Rattle.node_rules.specs.Lists.{incs_eq}
+use Rattle.node_rules.proofs.Incs.{inc_is}
 use Rattle.node_rules.specs.Node.{Node, quiet}
 use Rattle.paxos_node.proofs.Lists.{last_is}
 use Rattle.node_rules.specs.Welcoming.{hear_welcome, incs_in, is_for, is_in_order, is_recovering, last_config, told_in, welcomed}
-
-inc_same : (i j : Inc) → inc_eq i j ≡ true → i ≡ j
-inc_same i j h = go (eqb i.server j.server) (eqb i.start j.start) refl refl
-  where
-    go : (a b : Bool) → eqb i.server j.server ≡ a → eqb i.start j.start ≡ b → i ≡ j
-    go true true p q = rw (eqb-true i.server j.server p, eqb-true i.start j.start q) refl
-    go true false p q = absurd (let no : false ≡ true = (rw (p, q) at h) in cc)
-    go false b p q = absurd (let no : false ≡ true = (rw p at h) in cc)
 
 incs_same : (is js : List Inc) → incs_eq is js ≡ true → is ≡ js
 incs_same [] [] h = refl
@@ -27,7 +20,7 @@ incs_same (i ∷ is) [] h = absurd cc
 incs_same (i ∷ is) (j ∷ js) h = go (inc_eq i j) refl (λ r. incs_same is js r)
   where
     go : (u : Bool) → inc_eq i j ≡ u → (incs_eq is js ≡ true → is ≡ js) → i ∷ is ≡ j ∷ js
-    go true p r = rw (inc_same i j p) (ap (λ l. j ∷ l) (r (rw p at h)))
+    go true p r = rw (inc_is i j p) (ap (λ l. j ∷ l) (r (rw p at h)))
     go false p r = absurd (let no : false ≡ true = (rw p at h) in cc)
 
 pub left : (u w : Bool) → (u && w) ≡ true → u ≡ true

@@ -1,2 +1,1 @@
-pub mod IncOrder
 pub mod ToldMaps

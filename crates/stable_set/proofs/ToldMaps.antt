@@ -11,7 +11,9 @@ use Rattle.gtid_sets.specs.Sets.{Gtids}
 use Rattle.gtid_sets.specs.declared.told.ToldSet.{ToldSet}
 use Rattle.group_rules.specs.Told.{set_or_empty, sets_of, told_of, with_told}
 use Rattle.stable_set.specs.Entries.{told_in}
-use Rattle.stable_set.proofs.IncOrder.{inc_cmp, inc_lt_cmp, inc_eq_cmp, inc_eq_back, same_inc}
+use Rattle.node_rules.specs.Order.{inc_cmp}
+use Rattle.node_rules.proofs.Incs.{inc_is}
+use Rattle.node_rules.proofs.IncOrder.{inc_lt_cmp, inc_eq_cmp, inc_eq_back}
 
 abbrev pub Entries : Type 0
 Entries = List (Inc × Gtids)
@@ -33,7 +35,7 @@ inserted (e ∷ es) i s = go (inc_cmp i e.0) refl (inserted es i s)
     go Equal f r =
         let l : inc_lt i e.0 ≡ false = inc_lt_cmp i e.0 ∙ ap is_lt f in
         let u : inc_eq i e.0 ≡ true = inc_eq_cmp i e.0 ∙ ap is_eq f in
-        rw (l, with_told, u, f) (ap (λ k. told_in (k, s) ∷ map told_in es) (sym (same_inc i e.0 u)))
+        rw (l, with_told, u, f) (ap (λ k. told_in (k, s) ∷ map told_in es) (sym (inc_is i e.0 u)))
     go Greater f r =
         let l : inc_lt i e.0 ≡ false = inc_lt_cmp i e.0 ∙ ap is_lt f in
         let u : inc_eq i e.0 ≡ false = inc_eq_cmp i e.0 ∙ ap is_eq f in

@@ -1,4 +1,4 @@
--- The order of incarnations is total, and incarnations that tie are equal.
+-- The order of incarnations is total, and its tests are those of the order.
 use Rattle.std.proofs.Common.{◌≡◌, ℕ, ◌<◌, Bool, true, false, ltb, eqb, cond, refl, ap, ◌∙◌, arith}
 use Rattle.std.specs.Prelude.{nat_lt, ◌==◌}
 use Rattle.std.specs.Ordering.{nat_cmp, ordering_reverse, is_eq, is_lt}
@@ -6,10 +6,10 @@ use Rattle.std.specs.declared.cmp.Ordering.{Ordering}
 use Rattle.std.specs.declared.cmp.Ordering.TheVariants.{Less, Equal, Greater}
 use Rattle.std.specs.Cmp.{IsTotalOrder, unsigned_ties}
 use Rattle.std.proofs.lemmas.Cmp.{then_total, on_total, nat_cmp_total}
-use Rattle.std.proofs.lemmas.Bool.{and_parts, eqb-true, ltb-true}
+use Rattle.std.proofs.lemmas.Bool.{eqb-true, ltb-true}
 use Rattle.gr_ids.specs.declared.names.Inc.{Inc}
 use Rattle.gr_ids.specs.Names.{inc_eq, inc_lt}
-use Rattle.certifier.specs.Inside.{inc_cmp}
+use Rattle.node_rules.specs.Order.{inc_cmp}
 
 pub inc_cmp_total : IsTotalOrder inc_cmp
 inc_cmp_total = then_total (on_total (λ (i : Inc). i.server) nat_cmp_total) (on_total (λ (i : Inc). i.start) nat_cmp_total)
@@ -50,10 +50,3 @@ turned Greater = refl
 
 pub inc_eq_back : (a b : Inc) → inc_eq b a ≡ is_eq (inc_cmp a b)
 inc_eq_back a b = inc_eq_cmp b a ∙ (ap is_eq (inc_cmp_total.antisymm b a) ∙ turned (inc_cmp a b))
-
-pub same_inc : (a b : Inc) → inc_eq a b ≡ true → a ≡ b
-same_inc a b e =
-    let p = and_parts _ _ e in
-    let s : a.server ≡ b.server = eqb-true a.server b.server p.0 in
-    let t : a.start ≡ b.start = eqb-true a.start b.start p.1 in
-    rw (s, t) refl
