@@ -29,7 +29,7 @@ use Rattle.group_rules.specs.World.{Past, Does, Writes as WritesOffline, Halts, 
 use Rattle.group_bridge.specs.Left.{IsEntered, is_settled}
 use Rattle.group_runs.specs.Runs.{is_founder, AllDid, ByRules, IsFirst, IsDone}
 use Rattle.group_order.specs.OneLog.{IsReady, Viewed, TakenAs, Follows, GivenBy, AgreesAt, OneLogOf}
-use Rattle.group_order.proofs.Incs.{inc_is, inc_same}
+use Rattle.node_rules.proofs.Incs.{inc_is, inc_same}
 use Rattle.group_order.proofs.Nexts.{past_self, past_of, did_past, done_at}
 use Rattle.group_order.proofs.Shapes.{Shape, shapes, one_more, takes_after, not_entering, Asks}
 use Rattle.group_order.proofs.Spans.{enters_waits}

@@ -20,7 +20,7 @@ use Rattle.group_rules.specs.World.{Past, Does, Writes as WritesOffline, Halts, 
 use Rattle.slot_values.specs.declared.value.Value.{Value}
 use Rattle.group_runs.specs.Runs.{AllDid}
 use Rattle.group_order.specs.OneLog.{TakenAs, Follows}
-use Rattle.group_order.proofs.Incs.{inc_is}
+use Rattle.node_rules.proofs.Incs.{inc_is}
 use Rattle.group_lives.specs.Given.{IsToldSet}
 use Rattle.group_lives.specs.Sound.{HasToldSets}
 use Rattle.group_laws.specs.Entries as law

@@ -6,7 +6,7 @@ use Rattle.group_rules.specs.Names.{Inc, Gtid, Item, Error, Holder, BySession, B
 use Rattle.group_rules.specs.Events.{Called, Changed, Ends, Done, Is, Life, Cert}
 use Rattle.group_rules.specs.Life.{certs}
 use Rattle.group_rules.specs.Queue.{at_place, queue, is_done}
-use Rattle.group_rules.specs.Sessions.{phase, is_active, is_asking, sessions}
+use Rattle.group_rules.specs.Sessions.{phase, is_begun, is_active, is_asking, sessions}
 
 abbrev pub writes_key : Option Cert → Item → Bool
 writes_key None i = false
@@ -32,10 +32,10 @@ killed (Ends t ∷ l) s = elim (t == s) [ true ↦ None | false ↦ killed l s ]
 killed (Done p ∷ l) s = elim (killed l s) [ Some g ↦ Some g | None ↦ hit_by l s (at_place (certs l) p) ]
 killed (_ ∷ l) s = killed l s
 
--- its transaction was active when this member took ERROR
+-- it had a transaction when this member took ERROR (a hold, and a transaction whose commit was asked, end there at once)
 abbrev pub was_left : Life → ℕ → Bool
 was_left [] s = false
-was_left (Is Error c ∷ l) s = is_active (phase l s)
+was_left (Is Error c ∷ l) s = is_begun (phase l s)
 was_left (Called t v w ∷ l) s = elim (t == s) [ true ↦ false | false ↦ was_left l s ]
 was_left (Ends t ∷ l) s = elim (t == s) [ true ↦ false | false ↦ was_left l s ]
 was_left (_ ∷ l) s = was_left l s

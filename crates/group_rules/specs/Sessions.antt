@@ -19,6 +19,10 @@ phase (AsksCommit t i ∷ l) s = elim (t == s) [ true ↦ Asking i | false ↦ p
 phase (Ends t ∷ l) s = elim (t == s) [ true ↦ Free | false ↦ phase l s ]
 phase (_ ∷ l) s = phase l s
 
+abbrev pub is_begun : Phase → Bool
+is_begun Free = false
+is_begun p = true
+
 abbrev pub is_active : Phase → Bool
 is_active Active = true
 is_active _ = false
