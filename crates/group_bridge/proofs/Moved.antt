@@ -237,23 +237,33 @@ module _ (e : Event) where
       go false u = Leaves (Answered s (NotOnline (state_then (last_call a.life s)))) a tt
       go true u = either (is_read_only a) (Leaves (Answered s (read_only a)) a tt) (moves_unless_locked s c (holder a.life a.me.inc s c.item) a o u refl)
 
+  one_more : (n : ℕ) → n + 1 ≡ suc n
+  one_more n = omega arith
+
+  moved : (n k : ℕ) → n + suc (suc k) ≡ suc n + suc k
+  moved n k = omega arith
+
+  cut_length : (k c : ℕ) (b : List ℕ) → length (cut_from k c b) ≡ k
+  cut_length zero c b = refl
+  cut_length (suc k) c b = ap suc (cut_length k c (drop part_size b))
+
   open_ends : (s : ℕ) (a : Member) → IsOpen a.life s → IsEnded a.life s
   open_ends s a o = ended_in Active a.life s o.active refl
 
   -- the parts of a large transaction, from one on: those before it were made
   moves_cut : (t : Txn) (s : ℕ) (id : ValueId) (past : Life) → IsOpen past s → (changes past s ≡ [] → ⊥) → t ≡ txn_then past s → whole_bytes < length (body_bytes (HasTxn t)) →
-      (k c : ℕ) (b : List ℕ) (done : List Part) (a : Member) → k ≤ c → MadeParts done a.life (AsksCommit s id ∷ past) → reverse done ++ cut_from k c b ≡ cut (body_bytes (HasTxn t)) →
+      (k c : ℕ) (b : List ℕ) (done : List Part) (a : Member) → id ≡ record { origin = a.me.inc; number = last_made a.life + k } → k ≤ c → MadeParts done a.life (AsksCommit s id ∷ past) → reverse done ++ cut_from k c b ≡ cut (body_bytes (HasTxn t)) →
       Moves e a (for_each (own_part t) (cut_from k c b) a)
-  moves_cut t s id past o ne q large zero c b done a h m r = Stays a
-  moves_cut t s id past o ne q large (suc zero) c b done a h m r = go (p.index == p.count) (eq-eqb p.index p.count (omega arith))
+  moves_cut t s id past o ne q large zero c b done a n h m r = Stays a
+  moves_cut t s id past o ne q large (suc zero) c b done a n h m r = go (p.index == p.count) (eq-eqb p.index p.count (omega arith))
     where
       p : Part
       p = record { index = c - 0; count = c; bytes = take part_size b }
 
       go : (x : Bool) → x ≡ true → Moves e a (own (Says (body_bytes (PartOf p))) (Some (elim x [ true ↦ HasTxn t | false ↦ PartOf p ])) a)
-      go true y = moves_own (Says (body_bytes (PartOf p))) (Some (HasTxn t)) a (record { session = s; id = id; past = past; is_open = o; some_changes = ne; txn = q; parts = done; since = m; bytes = inr (p, refl, large, reverse-append (p ∷ []) done ∙ r) })
+      go true y = moves_own (Says (body_bytes (PartOf p))) (Some (HasTxn t)) a (record { session = s; id = id; past = past; asked_as = n ∙ ap (λ x. record { origin = a.me.inc; number = x }) (one_more (last_made a.life)); is_open = o; some_changes = ne; txn = q; parts = done; since = m; bytes = inr (p, refl, large, reverse-append (p ∷ []) done ∙ r) })
       go false y = absurd (false≢true y)
-  moves_cut t s id past o ne q large (suc (suc k)) c b done a h m r = go (p.index == p.count) off (moves_cut t s id past o ne q large (suc k) c (drop part_size b) (p ∷ done) next (omega arith) since more)
+  moves_cut t s id past o ne q large (suc (suc k)) c b done a n h m r = go (p.index == p.count) off (moves_cut t s id past o ne q large (suc k) c (drop part_size b) (p ∷ done) next (n ∙ ap (λ x. record { origin = a.me.inc; number = x }) (moved (last_made a.life) k)) (omega arith) since more)
     where
       p : Part
       p = record { index = c - suc k; count = c; bytes = take part_size b }
@@ -285,7 +295,7 @@ module _ (e : Event) where
       let b : List ℕ = body_bytes (HasTxn t) in
       let i : ValueId = record { origin = a.me.inc; number = last_made a.life + length (cut b) } in
       let c : ℕ = (length b + part_size - 1) / part_size in
-      moves_ask_commit s (last_made a.life + length (cut b)) (for_each (own_part t) (cut b)) a o (moves_cut t s i a.life o ne refl large c c b [] (push (AsksCommit s i) a) (omega arith) refl refl)
+      moves_ask_commit s (last_made a.life + length (cut b)) (for_each (own_part t) (cut b)) a o (moves_cut t s i a.life o ne refl large c c b [] (push (AsksCommit s i) a) (ap (λ x. record { origin = a.me.inc; number = last_made a.life + x }) (cut_length c c b)) (omega arith) refl refl)
 
   moves_send_txn : (s : ℕ) (a : Member) → IsOpen a.life s → (changes a.life s ≡ [] → ⊥) → Moves e a (send_txn s (txn_of s a) (body_bytes (HasTxn (txn_of s a))) a)
   moves_send_txn s a o ne = go (nat_le (length b) whole_bytes) refl
@@ -301,7 +311,7 @@ module _ (e : Event) where
 
       go : (x : Bool) → nat_le (length b) whole_bytes ≡ x → Moves e a (elim x [ true ↦ ask_commit s (last_made a.life + 1) (own (Says b) (Some (HasTxn t))) a | false ↦ send_parts s t (cut b) a ])
       go true y = moves_ask_commit s (last_made a.life + 1) (own (Says b) (Some (HasTxn t))) a o
-          (moves_own (Says b) (Some (HasTxn t)) (push (AsksCommit s i) a) (record { session = s; id = i; past = a.life; is_open = o; some_changes = ne; txn = refl; parts = []; since = refl; bytes = inl (refl, refl, le_true (length b) whole_bytes y) }))
+          (moves_own (Says b) (Some (HasTxn t)) (push (AsksCommit s i) a) (record { session = s; id = i; past = a.life; asked_as = ap (λ x. record { origin = a.me.inc; number = x }) (one_more (last_made a.life)); is_open = o; some_changes = ne; txn = refl; parts = []; since = refl; bytes = inl (refl, refl, le_true (length b) whole_bytes y) }))
       go false y = moves_parts s a o ne (le_false (length b) whole_bytes y)
 
   moves_commit_bytes : (s : ℕ) (a : Member) → IsOpen a.life s → (changes a.life s ≡ [] → ⊥) → Moves e a (commit_bytes s (txn_of s a) (body_bytes (HasTxn (txn_of s a))) a)

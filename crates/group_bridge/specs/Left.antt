@@ -76,6 +76,7 @@ pub record AsksFor (l : Life) (v : Value) (t : Txn) : Type 0 where
   pub id : ValueId
   pub past : Life
   pub is_open : IsOpen past session
+  pub asked_as : id ≡ v.id
   pub some_changes : changes past session ≡ [] → ⊥
   pub txn : t ≡ txn_then past session
   pub parts : List Part
