@@ -16,7 +16,7 @@ ordered t w one = record {
   no_other = one.no_other;
   took_next = λ i e p h. (taken i e p h).next;
   skipped_next = λ i s v p h. (skips i s v p h).next;
-  joined = λ i x p h. at_point i (Enters x) p h;
+  joined = λ i x p h. let y = at_point i (Enters x) p h in (y.joiner, y.value, y.there, y.adds, y.inc);
   took_made = λ i e p h. (taken i e p h).made;
   skipped_made = λ i s v p h. (skips i s v p h).made;
 }

@@ -94,6 +94,10 @@ took_as t log p i e h = go (h.0).kept refl
           is_it = refl;
         })
 
+-- an Add that was taken as Plain took effect
+pub add_effect : (t : Setup) (log : List Value) (l : Life) (e : Entry) (j : Joiner) → (x : TookAs t log l e) → e.value.what ≡ Add j → e.effect ≡ Plain → x.effect ≡ true
+add_effect t log l e j x w f = add_plain t l e.slot x.place x.effect e.value j w (sym (ap (λ y. y.effect) x.is_it) ∙ f)
+
 module _ (t : Setup) (cs : List Cast) (log : List Value) (chosen : IsChosenLog (group_of t) cs (flip log)) where
   pub added_here : (l : Life) (e : Entry) (j : Joiner) → TookAs t log l e → e.value.what ≡ Add j → e.effect ≡ Plain → AddedIn (group_of t) cs j.inc e.slot
   added_here l e j x w f = (
@@ -112,7 +116,7 @@ module _ (t : Setup) (cs : List Cast) (log : List Value) (chosen : IsChosenLog (
       k = kept_is (reading_of t (before_slot log e.slot)) e.value x.place x.effect x.kept
 
       effect : x.effect ≡ true
-      effect = add_plain t l e.slot x.place x.effect e.value j w (sym (ap (λ y. y.effect) x.is_it) ∙ f)
+      effect = add_effect t log l e j x w f
 
       slot : e.slot ≡ length (flip (before_slot log e.slot)) + 1
       slot =

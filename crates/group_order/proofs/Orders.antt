@@ -26,7 +26,7 @@ use Rattle.group_rules.specs.Life.{state, is_recovering, executed, view, entered
 use Rattle.group_rules.specs.View.{seated}
 use Rattle.group_rules.specs.Recovery.{pending_ask, add_place, all_parts, give_of}
 use Rattle.group_rules.specs.Rows.{known}
-use Rattle.group_rules.specs.Legal.{IsPast, last_slot, AddsInc, WasMade, SameEntry}
+use Rattle.group_rules.specs.Legal.{IsPast, last_slot, WasMade, SameEntry}
 use Rattle.group_rules.specs.Steps.{group_of}
 use Rattle.group_rules.specs.Taking.{takes_slots, entry_of}
 use Rattle.group_rules.specs.World.{World, Past, Happening, Does, Writes, Halts, life_in, world_after}
@@ -34,7 +34,7 @@ use Rattle.group_rules.specs.OneList.{reading_of, value_at, before_slot, scan_en
 use Rattle.group_bridge.specs.Left.{IsRestored, IsSent, IsGiveSent, slot_left}
 use Rattle.group_bridge.specs.Moves.{slots_in}
 use Rattle.group_runs.specs.Runs.{as_sent, IsSetup, is_founder, AllDid, IsDone, HeardIn, WasGreeted, WasTold, WasSentAs, TookThen, OfSlots, OfNodes, EveryRun}
-use Rattle.group_order.specs.OneLog.{LeftBy, GivenBy, SkippedAs, IsReady, AgreesWith, Viewed, AgreesAt, Follows, NoOther, OneLogOf, EveryRunHasOne}
+use Rattle.group_order.specs.OneLog.{LeftBy, GivenBy, SkippedAs, JoinedAs, IsReady, AgreesWith, Viewed, AgreesAt, Follows, NoOther, OneLogOf, EveryRunHasOne}
 use Rattle.group_order.proofs.Steps.{SlotTaken, Steps}
 use Rattle.group_order.proofs.Flips.{flip, flip_length, read_flip, take_flip, before_length}
 use Rattle.group_order.proofs.Logs.{LogOf, the_log, shorter, left_all}
@@ -43,7 +43,7 @@ use Rattle.node_rules.proofs.Incs.{inc_same, inc_is}
 use Rattle.group_order.proofs.Adds.{added_once}
 use Rattle.group_order.proofs.Spans.{Last, Span, spans}
 use Rattle.group_order.proofs.Nexts.{past_self, past_of, did_past, done_at, last_done, EnteredBy, entered_by, WelcomeAt, IsNext, all_next}
-use Rattle.group_order.proofs.Joins.{TookAs, took_as, added_here, kept_is}
+use Rattle.group_order.proofs.Joins.{TookAs, took_as, add_effect, added_here, kept_is}
 use Rattle.group_order.proofs.Entries.{same_entry}
 use Rattle.group_order.proofs.Begins.{took_at}
 use Rattle.group_order.proofs.Agrees.{WelcomeFrom, GiveFrom, taker, all_agree}
@@ -80,8 +80,16 @@ module _ (t : Setup) (good : IsSetup t) (one : InEveryRun OneLog) (kept : InEver
       law : Adds e.message.to u.slot
       law = (subst (λ v. WelcomesFollow (group_of t) v) (sym (x.run).1) (welcomes as_sent (λ ms m k. k) (group_of t) (x.run).0 good.horizon) e.message u e.on_wire e.wire).5
 
-  joined : (q : Past) (i : Inc) (u : Welcome) → IsPast (Does i (Enters u) ∷ q) w.past → AddsInc i (value_at log u.slot)
-  joined q i u k = (g.joiner, g.add.value, subst (λ s. value_at log s ≡ Some g.add.value) same z.value, g.adds, sym g.to ∙ e.to)
+  joined : (q : Past) (i : Inc) (u : Welcome) → IsPast (Does i (Enters u) ∷ q) w.past → JoinedAs t log i u
+  joined q i u k = record {
+    value = g.add.value;
+    joiner = g.joiner;
+    there = subst (λ s. value_at log s ≡ Some g.add.value) same z.value;
+    adds = g.adds;
+    inc = sym g.to ∙ e.to;
+    place = z.place;
+    kept = ap (KeptAt z.place) (sym (add_effect t log (life_in g.before g.who) g.add g.joiner z g.adds g.effect)) ∙ z.kept ∙ ap (λ s. became (reading_of t (before_slot log s)) g.add.value) same;
+  }
     where
       e : EnteredBy t x.nodes q i u
       e = entered_at q i u k

@@ -5,11 +5,11 @@ use Rattle.slot_values.specs.declared.value.Value.{Value}
 use Rattle.slot_values.specs.declared.kept.Kept.TheVariants.{At as KeptAt}
 use Rattle.slot_values.specs.Log.{became}
 use Rattle.group_rules.specs.Events.{Did, Took, Skips, Enters, Setup, Entry}
-use Rattle.group_rules.specs.Legal.{last_slot, AddsInc, WasMade}
+use Rattle.group_rules.specs.Legal.{last_slot, WasMade}
 use Rattle.group_rules.specs.Taking.{entry_of}
 use Rattle.group_rules.specs.World.{Past, life_in}
 use Rattle.group_rules.specs.OneList.{reading_of, value_at, before_slot}
-use Rattle.group_order.specs.OneLog.{SkippedAs}
+use Rattle.group_order.specs.OneLog.{JoinedAs, SkippedAs}
 
 pub record SlotTaken (t : Setup) (log : List Value) (p : Past) (i : Inc) (e : Entry) : Type 0 where
   pub value : value_at log e.slot ≡ Some e.value
@@ -23,5 +23,5 @@ pub record SlotTaken (t : Setup) (log : List Value) (p : Past) (i : Inc) (e : En
 abbrev pub Steps : Setup → List Value → Past → Inc → Did → Type 0
 Steps t log p i (Took e) = SlotTaken t log p i e
 Steps t log p i (Skips s v) = SkippedAs t log p i s v
-Steps t log p i (Enters w) = AddsInc i (value_at log w.slot)
+Steps t log p i (Enters w) = JoinedAs t log i w
 Steps t log p i d = Unit {0}

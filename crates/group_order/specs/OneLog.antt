@@ -2,7 +2,9 @@
 use Rattle.std.specs.Prelude.{◌≡◌, ◌⊎◌, ◌<◌, ℕ, suc, Bool, true, false, Some, None, List, [], ◌∷◌, length, filter, nat_le}
 use Rattle.gr_ids.specs.Names.{has_inc}
 use Rattle.gr_ids.specs.declared.names.Inc.{Inc}
+use Rattle.slot_values.specs.declared.value.Joiner.{Joiner}
 use Rattle.slot_values.specs.declared.value.Value.{Value}
+use Rattle.slot_values.specs.declared.value.What.TheVariants.{Add}
 use Rattle.slot_values.specs.Values.{is_noop}
 use Rattle.slot_values.specs.Log.{Reading, incs, became}
 use Rattle.slot_values.specs.declared.kept.Kept.TheVariants.{At as KeptAt, Skipped as IsSkipped}
@@ -13,7 +15,7 @@ use Rattle.paxos_forms.specs.declared.recovery.Give.{Give}
 use Rattle.group_rules.specs.Events.{Did, Took, Skips, Enters, Restores, Life, Setup, Entry, Cert}
 use Rattle.group_rules.specs.Life.{view, taken, executed, entry_at, entered, has_give}
 use Rattle.group_rules.specs.Parts.{open_parts}
-use Rattle.group_rules.specs.Legal.{IsPast, DidAt, last_slot, AddsInc, WasMade, SameEntry}
+use Rattle.group_rules.specs.Legal.{IsPast, DidAt, last_slot, WasMade, SameEntry}
 use Rattle.group_rules.specs.Taking.{entry_of}
 use Rattle.group_rules.specs.Recovery.{certs_given, give_of}
 use Rattle.group_rules.specs.Rows.{known}
@@ -79,11 +81,21 @@ pub record SkippedAs (t : Setup) (log : List Value) (p : Past) (i : Inc) (slot :
   pub skipped : became (reading_of t (before_slot log slot)) v ≡ IsSkipped
   pub made : is_noop v.what ≡ false → WasMade p v
 
+-- its Welcome comes with the slot of its own Add, which takes effect there
+pub record JoinedAs (t : Setup) (log : List Value) (i : Inc) (w : Welcome) : Type 0 where
+  pub value : Value
+  pub joiner : Joiner
+  pub there : value_at log w.slot ≡ Some value
+  pub adds : value.what ≡ Add joiner
+  pub inc : joiner.inc ≡ i
+  pub place : ℕ
+  pub kept : KeptAt place true ≡ became (reading_of t (before_slot log w.slot)) value
+
 -- each incarnation takes or skips the next slot after its last one; a Welcome comes with the slot of its own Add
 abbrev pub Follows : Setup → List Value → Past → Inc → Did → Type 0
 Follows t log p i (Took e) = TakenAs t log p i e
 Follows t log p i (Skips s v) = SkippedAs t log p i s v
-Follows t log p i (Enters w) = AddsInc i (value_at log w.slot)
+Follows t log p i (Enters w) = JoinedAs t log i w
 Follows t log p i d = Unit {0}
 
 -- each slot of the log was taken or skipped by some incarnation
