@@ -1,3 +1,4 @@
 pub mod Lives
 pub mod States
 pub mod Sessions
+pub mod Opens
