@@ -2,3 +2,4 @@ pub mod Lives
 pub mod States
 pub mod Sessions
 pub mod Opens
+pub mod Opened

@@ -1,7 +1,8 @@
 -- The changes of a session's transaction: as a history has them, and as its life has.
 use Rattle.std.proofs.Common.{◌≡◌, ◌⊎◌, inl, inr, ℕ, suc, ◌<◌, Bool, true, false, cond, not, ◌&&◌, ◌||◌, Option, Some, None, List, [], ◌∷◌, ◌++◌, refl, sym, ap, subst, ◌∙◌, length, eqb, eq-eqb, arith}
-use Rattle.std.specs.Prelude.{◌==◌, is_some, nat_lt, filter, reverse}
+use Rattle.std.specs.Prelude.{◌==◌, if◌then◌else◌, is_some, nat_lt, filter, reverse}
 use Rattle.std.specs.List.{list_any, find}
+use Rattle.std.proofs.lemmas.List.{reverse-append}
 use Rattle.std.proofs.lemmas.Bool.{false≢true, cases_Bool, or_cases, or_left, or_right, and_parts, and_from, not-true, eqb-true}
 use Rattle.gr_ids.specs.declared.names.Inc.{Inc}
 use Rattle.gr_ids.specs.declared.names.Gtid.{Gtid}
@@ -23,8 +24,9 @@ use Rattle.group_rules.specs.declared.answers.Answer.TheVariants.{Committed as C
 use Rattle.group_rules.specs.declared.answers.Holder.{Holder}
 use Rattle.group_rules.specs.declared.answers.Holder.TheVariants.{Session as BySession, Place as ByPlace}
 use Rattle.group_rules.specs.Events.{Did, Founds, Starts, Came, Made, Took, Skips, Done, Committed, Is, Gave, Answered, Begun, Changed, Replied, Called, AsksCommit, Ends, Enters, Restores, AskFails, Hears, Ticks, Works, Calls, Operates, Life, Setup, Entry, Cert}
-use Rattle.group_rules.specs.Life.{certs, has_give, entered}
-use Rattle.group_rules.specs.Queue.{at_place, queue}
+use Rattle.gtid_sets.specs.Sets.{has}
+use Rattle.group_rules.specs.Life.{state, is_error, executed, certs, has_give, entered}
+use Rattle.group_rules.specs.Queue.{at_place, pending, queue, is_own}
 use Rattle.group_rules.specs.Sessions.{Phase, Free, Holding, Active, Asking, is_begun, is_holding, is_active, is_asking, phase, changes, sessions, with_session}
 use Rattle.group_rules.specs.Keys.{killed, hit_by, keeps_key, writes_key, holds_key, session_holder}
 use Rattle.paxos_forms.specs.declared.welcome.Welcome.{Welcome}
@@ -59,7 +61,7 @@ end_none (y ∷ xs) x e = absurd (cc e)
 abbrev pub any_item : List Change → Item → Bool
 any_item ds x = list_any (λ (c : Change). item_eq c.item x) ds
 
-any_more : (ds : List Change) (c : Change) (x : Item) → any_item (ds ++ c ∷ []) x ≡ (any_item ds x || item_eq c.item x)
+pub any_more : (ds : List Change) (c : Change) (x : Item) → any_item (ds ++ c ∷ []) x ≡ (any_item ds x || item_eq c.item x)
 any_more [] c x = or_none (item_eq c.item x)
   where
     or_none : (b : Bool) → (b || false) ≡ b
@@ -72,7 +74,7 @@ any_more (d ∷ ds) c x = ap (λ b. item_eq d.item x || b) (any_more ds c x) ∙
     assoc false b c = refl
 
 -- one that has none of the items changes none of them
-none_hit : (c : law.Cert) (ds : List Change) (x : Item) → lives.hits (Some c) ds ≡ false → has_item c.txn.items x ≡ true → any_item ds x ≡ false
+pub none_hit : (c : law.Cert) (ds : List Change) (x : Item) → lives.hits (Some c) ds ≡ false → has_item c.txn.items x ≡ true → any_item ds x ≡ false
 none_hit c ds x h k = elim (cases_Bool (any_item ds x)) [
   | inr q ↦ q
   | inl q ↦ (let m = any_mem (λ (d : Change). item_eq d.item x) ds q in
@@ -85,7 +87,7 @@ in_items : (xs : List Item) (x : Item) → Mem x xs → has_item xs x ≡ true
 in_items xs x m = any_from (item_eq x) xs x m (item_eq_itself x)
 
 -- where no key is kept of the items, none is hit
-kept_hit : (c : law.Cert) (ds : List Change) → list_any (any_item ds) c.txn.items ≡ false → lives.hits (Some c) ds ≡ false
+pub kept_hit : (c : law.Cert) (ds : List Change) → list_any (any_item ds) c.txn.items ≡ false → lives.hits (Some c) ds ≡ false
 kept_hit c ds h = elim (cases_Bool (lives.hits (Some c) ds)) [
   | inr q ↦ q
   | inl q ↦ (let m = any_mem (λ (d : Change). decided.writes c d.item) ds q in
@@ -95,19 +97,19 @@ kept_hit c ds h = elim (cases_Bool (lives.hits (Some c) ds)) [
       absurd (false≢true (sym h ∙ any_from (any_item ds) c.txn.items n.0 n.1 here)))
 ]
 
-hit_kept : (c : law.Cert) (ds : List Change) → lives.hits (Some c) ds ≡ false → list_any (any_item ds) c.txn.items ≡ false
+pub hit_kept : (c : law.Cert) (ds : List Change) → lives.hits (Some c) ds ≡ false → list_any (any_item ds) c.txn.items ≡ false
 hit_kept c ds h = elim (cases_Bool (list_any (any_item ds) c.txn.items)) [
   | inr q ↦ q
   | inl q ↦ (let m = any_mem (any_item ds) c.txn.items q in absurd (false≢true (sym (none_hit c ds m.0 h (in_items c.txn.items m.0 m.1)) ∙ m.2)))
 ]
 
-any_same : {A : Type 0} (f g : A → Bool) → ((x : A) → f x ≡ g x) → (xs : List A) → list_any f xs ≡ list_any g xs
+pub any_same : {A : Type 0} (f g : A → Bool) → ((x : A) → f x ≡ g x) → (xs : List A) → list_any f xs ≡ list_any g xs
 any_same f g e [] = refl
 any_same f g e (x ∷ xs) = λ k. e x k || any_same f g e xs k
 
 -- ---- the certified transaction at a place
 
-find_is : (p : ℕ) (cs : List Cert) (c : Cert) → at_place cs p ≡ Some c → In c cs × (c.place ≡ p)
+pub find_is : (p : ℕ) (cs : List Cert) (c : Cert) → at_place cs p ≡ Some c → In c cs × (c.place ≡ p)
 find_is p [] c h = absurd (cc h)
 find_is p (d ∷ cs) c h = go (d.place == p) refl h (find_is p cs c)
   where
@@ -115,7 +117,7 @@ find_is p (d ∷ cs) c h = go (d.place == p) refl h (find_is p cs c)
     go true e q f = let s : d ≡ c = some_is q in (inl s, ap (λ (y : Cert). y.place) (sym s) ∙ eqb-true d.place p e)
     go false e q f = let k = f q in (inr k.0, k.1)
 
-find_some : (p : ℕ) (cs : List Cert) (c : Cert) → In c cs → c.place ≡ p → (d : Cert) × (at_place cs p ≡ Some d)
+pub find_some : (p : ℕ) (cs : List Cert) (c : Cert) → In c cs → c.place ≡ p → (d : Cert) × (at_place cs p ≡ Some d)
 find_some p [] c h e = absurd h
 find_some p (x ∷ cs) c h e = go (x.place == p) refl h (λ k. find_some p cs c k e)
   where
@@ -123,6 +125,37 @@ find_some p (x ∷ cs) c h e = go (x.place == p) refl h (λ k. find_some p cs c 
     go true q k f = (x, refl)
     go false q (inl k) f = absurd (false≢true (sym q ∙ eq-eqb x.place p (ap (λ (y : Cert). y.place) k ∙ e)))
     go false q (inr k) f = f k
+
+in_filter : (test : Cert → Bool) (x : Cert) (xs : List Cert) → In x (filter test xs) → In x xs × (test x ≡ true)
+in_filter test x [] h = absurd h
+in_filter test x (y ∷ ys) h = go (test y) refl h (in_filter test x ys)
+  where
+    go : (b : Bool) → test y ≡ b → In x (if b then y ∷ filter test ys else filter test ys) → (In x (filter test ys) → In x ys × (test x ≡ true)) → In x (y ∷ ys) × (test x ≡ true)
+    go true e (inl q) k = (inl q, ap test (sym q) ∙ e)
+    go true e (inr z) k = let m = k z in (inr m.0, m.1)
+    go false e z k = let m = k z in (inr m.0, m.1)
+
+in_end : (x : Cert) (xs : List Cert) (y : Cert) → In x (xs ++ y ∷ []) → (y ≡ x) ⊎ In x xs
+in_end x [] y h = elim h [ inl q ↦ inl q | inr z ↦ absurd z ]
+in_end x (z ∷ xs) y h = elim h [ inl q ↦ inr (inl q) | inr k ↦ elim (in_end x xs y k) [ inl q ↦ inl q | inr m ↦ inr (inr m) ] ]
+
+in_reverse : (x : Cert) (xs : List Cert) → In x (reverse xs) → In x xs
+in_reverse x [] h = h
+in_reverse x (y ∷ ys) h = elim (in_end x (reverse ys) y (subst (In x) (reverse-append (y ∷ []) ys) h)) [ inl q ↦ inl q | inr k ↦ inr (in_reverse x ys k) ]
+
+-- what is pending is certified, and isn't committed
+pub in_pending : (l : Life) (c : Cert) → In c (pending l) → In c (certs l) × (has (executed l) c.gtid ≡ false)
+in_pending l c h =
+    let k = in_filter (λ (d : Cert). not (has (executed l) d.gtid)) c (reverse (certs l)) h in
+    (in_reverse c (certs l) k.0, not-true (has (executed l) c.gtid) k.1)
+
+-- what is queued is pending, of another origin, and the member isn't in ERROR
+pub in_queue : (l : Life) (me : Inc) (c : Cert) → In c (queue l me) → (is_error (state l) ≡ false) × In c (pending l) × (is_own me c ≡ false)
+in_queue l me c h = go (is_error (state l)) refl h
+  where
+    go : (b : Bool) → is_error (state l) ≡ b → In c (elim b [ true ↦ [] | false ↦ filter (λ d. not (is_own me d)) (pending l) ]) → (is_error (state l) ≡ false) × In c (pending l) × (is_own me c ≡ false)
+    go true e z = absurd z
+    go false e z = let k = in_filter (λ (d : Cert). not (is_own me d)) c (pending l) z in (e, k.0, not-true (is_own me c) k.1)
 
 module _ (t : Setup) (i : Inc) (base : List law.Placed) where
   -- the two have the same transaction at a place
