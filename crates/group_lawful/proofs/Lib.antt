@@ -3,3 +3,4 @@ pub mod States
 pub mod Sessions
 pub mod Opens
 pub mod Opened
+pub mod Holders

@@ -52,7 +52,7 @@ some_none e = absurd (cc e)
 some_is : {A : Type 0} {x y : A} → Some x ≡ Some y → x ≡ y
 some_is {x = x} {y = y} e = cc
 
-abbrev is_open : Phase → Bool
+abbrev pub is_open : Phase → Bool
 is_open p = is_holding p || is_active p
 
 holding_is : (p : Phase) → is_holding p ≡ true → p ≡ Holding
@@ -80,7 +80,7 @@ module _ (t : Setup) (i : Inc) (base : List law.Placed) where
       go None q = (refl, q)
 
   -- the certified transaction of a place that is done
-  done_place : (l : Life) (p : ℕ) → LivedDid t i (Done p) l → AlwaysSound t i base l → AtPlace t i base l p
+  pub done_place : (l : Life) (p : ℕ) → LivedDid t i (Done p) l → AlwaysSound t i base l → AtPlace t i base l p
   done_place l p h o =
       let z = h.allowed in
       let f = queue_has l p z.0 z.1 in
