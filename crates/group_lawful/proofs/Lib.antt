@@ -4,3 +4,4 @@ pub mod Sessions
 pub mod Opens
 pub mod Opened
 pub mod Holders
+pub mod Marks
