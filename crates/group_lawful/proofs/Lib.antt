@@ -5,3 +5,5 @@ pub mod Opens
 pub mod Opened
 pub mod Holders
 pub mod Marks
+pub mod Fronts
+pub mod Known

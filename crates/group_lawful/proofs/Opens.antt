@@ -245,7 +245,7 @@ module _ (t : Setup) (i : Inc) (base : List law.Placed) where
   -- one that knows a certified transaction is ready
   pub sound_where : (l : Life) → AlwaysSound t i base l → (c : Cert) → In c (certs l) → Sound t i base l
   sound_where [] o c m = absurd m
-  sound_where (d ∷ l) o c m = elim (ready_or (d ∷ l) o.0.0) [
-    | inl r ↦ o.0.1 r (omega arith)
+  sound_where (d ∷ l) o c m = elim (ready_or (d ∷ l) o.0.0.0) [
+    | inl r ↦ o.0.0.1 r (omega arith)
     | inr e ↦ (let k = unready (d ∷ l) e.0 e.1 in absurd (subst (In c) k.0 m))
   ]

@@ -214,7 +214,7 @@ module _ (t : Setup) (i : Inc) (base : List law.Placed) where
   or_none false true h = absurd (false≢true h)
 
   -- one that takes slots is ready
-  ready_by : (l : Life) → Shape t i l → takes_slots l ≡ true → IsReady t i l
+  pub ready_by : (l : Life) → Shape t i l → takes_slots l ≡ true → IsReady t i l
   ready_by l s h = elim (cases_Bool (is_founder t i)) [ inl f ↦ inl f | inr f ↦ inr (takes_after t i l s h f).2 ]
 
   in_before : (e : Entry) (l : Life) → LivedDid t i (Took e) l → Shape t i l → StandsSo l → IsIn (stand l)
@@ -279,9 +279,9 @@ module _ (t : Setup) (i : Inc) (base : List law.Placed) where
   offline_none Online y h k = absurd (false≢true h)
   offline_none Error y h k = absurd (false≢true h)
 
-  shape_of : (p : Life) → AlwaysSound t i base p → 1 < length p → Shape t i p
+  pub shape_of : (p : Life) → AlwaysSound t i base p → 1 < length p → Shape t i p
   shape_of [] q b = absurd (omega (arith, b))
-  shape_of (d ∷ p) q b = q.0.0
+  shape_of (d ∷ p) q b = q.0.0.0
 
   state_stands : (x : MemberState) (c : Cause) (l : Life) → Lived t i (Is x c ∷ l) → AlwaysSound t i base (Is x c ∷ l) → StandsSo l × TailStands l → StandsSo (Is x c ∷ l)
   state_stands x c l (inl f, h) o k r n z = subst (StateAs x) (sym (ap (λ y. seen.standing t (law.values y) i) (skip_state base x c l (life_of base l)))) (first_stands x c l f h r)
@@ -297,10 +297,10 @@ module _ (t : Setup) (i : Inc) (base : List law.Placed) where
       let a = f.allowed in
       let y : LivedDid t i (Took a.0) a.1 × Lived t i a.1 = subst (Lived t i) a.2 h in
       let tail : StandsSo a.1 = subst TailStands a.2 k.1 in
-      let u : (Shape t i (Took a.0 ∷ a.1) × SoundAt t i base (Took a.0 ∷ a.1)) × AlwaysSound t i base a.1 = subst (AlwaysSound t i base) a.2 o.1 in
+      let u : ((Shape t i (Took a.0 ∷ a.1) × SoundAt t i base (Took a.0 ∷ a.1)) × Unit {0}) × AlwaysSound t i base a.1 = subst (AlwaysSound t i base) a.2 o.1 in
       let s : Shape t i a.1 = shape_of a.1 u.1 y.0.goes_on.begun in
       let m : IsReady t i (Took a.0 ∷ a.1) = subst (IsReady t i) a.2 r in
-      ap stand a.2 ∙ arrived a.0 a.1 y.0 s tail (u.0.1 m (omega arith)).taking a.3
+      ap stand a.2 ∙ arrived a.0 a.1 y.0 s tail (u.0.0.1 m (omega arith)).taking a.3
 
   pub stands_so : (l : Life) → Lived t i l → AlwaysSound t i base l → StandsSo l × TailStands l
   stands_so [] h o = ((λ r n z. absurd (omega (arith, n))), tt)
@@ -312,7 +312,7 @@ module _ (t : Setup) (i : Inc) (base : List law.Placed) where
       let k = stands_so l h.1 o.1 in
       let w = h.0.allowed in
       let up : is_recovering (state l) ≡ true = subst (λ y. is_recovering (state y) ≡ true) (sym w.heard) w.recovering in
-      ((λ r n z. recovering_as (state l) (seen.standing t (law.values base) i) up (given_stands l g cs (o.0.1 r (omega arith)) (joined l (shape_of l o.1 h.0.goes_on.begun) up))), k.0)
+      ((λ r n z. recovering_as (state l) (seen.standing t (law.values base) i) up (given_stands l g cs (o.0.0.1 r (omega arith)) (joined l (shape_of l o.1 h.0.goes_on.begun) up))), k.0)
     where
       joined : (l : Life) → Shape t i l → is_recovering (state l) ≡ true → is_founder t i ≡ false
       joined l s u = elim (cases_Bool (is_founder t i)) [ inl f ↦ absurd (false≢true (sym (s.founder f).joined ∙ u)) | inr f ↦ f ]

@@ -1,11 +1,12 @@
 -- What a history knows of the list that it takes: the transactions that it holds as certified.
-use Rattle.std.specs.Prelude.{◌≡◌, ◌⊎◌, ◌<◌, true, false, List, [], ◌∷◌, length}
+use Rattle.std.specs.Prelude.{◌≡◌, ◌⊎◌, ◌<◌, ◌≤◌, true, false, Some, List, [], ◌∷◌, length}
 use Rattle.gr_ids.specs.declared.names.Inc.{Inc}
 use Rattle.gtid_sets.specs.Sets.{has}
+use Rattle.gtid_sets.specs.Canonical.{IsUuid, IsNumber}
 use Rattle.slot_values.specs.declared.value.Joiner.{Joiner}
 use Rattle.node_rules.specs.Lists.{In}
-use Rattle.group_rules.specs.Events.{Life, Cert, Setup}
-use Rattle.group_rules.specs.Life.{executed, certs}
+use Rattle.group_rules.specs.Events.{Did, Restores, Life, Entry, Cert, Setup}
+use Rattle.group_rules.specs.Life.{executed, certs, entry_at, has_give}
 use Rattle.group_runs.specs.Runs.{is_founder}
 use Rattle.group_order.specs.OneLog.{IsReady}
 use Rattle.group_order.proofs.Shapes.{Shape}
@@ -28,10 +29,18 @@ pub record Alike (c : Cert) (d : law.Cert) : Type 0 where
 abbrev pub certified_of : Setup → List law.Placed → Life → List law.Cert
 certified_of t base l = law.certified t (lives.marked (life_of base l))
 
--- Those that it holds are those of its list, but for some that it has executed: a Give tells a joiner only what it lacks.
+-- newest first, each at a place of its own
+abbrev pub Descends : List Cert → Type 0
+Descends [] = Unit {0}
+Descends (c ∷ cs) = ((d : Cert) → In d cs → d.place < c.place) × Descends cs
+
+-- Those that it holds are those of its list, but for some that it has executed: a Give tells a joiner only what it lacks. Each was given, or it took its entry.
 pub record Knows (t : Setup) (base : List law.Placed) (l : Life) : Type 0 where
   pub of_list : (c : Cert) → In c (certs l) → (d : law.Cert) × Mem d (certified_of t base l) × Alike c d
   pub all : (d : law.Cert) → Mem d (certified_of t base l) → ((c : Cert) × In c (certs l) × Alike c d) ⊎ (has (executed l) d.gtid ≡ true)
+  pub descends : Descends (certs l)
+  pub numbers : (c : Cert) → In c (certs l) → IsUuid c.gtid.source × IsNumber c.gtid.number
+  pub entries : (c : Cert) → In c (certs l) → (c.place ≤ length base) ⊎ ((e : Entry) × (entry_at l c.place ≡ Some e))
 
 -- what a joiner is given ends with its own Add
 pub record EndsWithAdd (i : Inc) (base : List law.Placed) : Type 0 where
@@ -54,6 +63,11 @@ pub record Sound (t : Setup) (i : Inc) (base : List law.Placed) (l : Life) : Typ
 abbrev pub SoundAt : Setup → Inc → List law.Placed → Life → Type 0
 SoundAt t i base l = IsReady t i l → 0 < length l → Sound t i base l
 
+-- no Give was taken up before
+abbrev pub GivenOnce : Did → Life → Type 0
+GivenOnce (Restores g cs) l = has_give l ≡ false
+GivenOnce d l = Unit {0}
+
 abbrev pub AlwaysSound : Setup → Inc → List law.Placed → Life → Type 0
 AlwaysSound t i base [] = Unit {0}
-AlwaysSound t i base (d ∷ l) = (Shape t i (d ∷ l) × SoundAt t i base (d ∷ l)) × AlwaysSound t i base l
+AlwaysSound t i base (d ∷ l) = ((Shape t i (d ∷ l) × SoundAt t i base (d ∷ l)) × GivenOnce d l) × AlwaysSound t i base l
