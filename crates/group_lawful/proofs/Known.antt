@@ -106,7 +106,7 @@ module _ (t : Setup) (i : Inc) (base : List law.Placed) where
   restoring : (g : Give) → (cs : List Cert) (l : Life) → LivedDid t i (Restores g cs) l → is_recovering (state l) ≡ true
   restoring g cs l h = let w = h.allowed in subst (λ y. is_recovering (state y) ≡ true) (sym w.heard) w.recovering
 
-  empty_before : (g : Give) → (cs : List Cert) (l : Life) → LivedDid t i (Restores g cs) l → AlwaysSound t i base l → has_give l ≡ false → (slots_in l ≡ []) × (has_give l ≡ false)
+  pub empty_before : (g : Give) → (cs : List Cert) (l : Life) → LivedDid t i (Restores g cs) l → AlwaysSound t i base l → has_give l ≡ false → (slots_in l ≡ []) × (has_give l ≡ false)
   empty_before g cs l h o n =
       let s = shape_of t i base l o h.goes_on.begun in
       elim (ready_or t i base l s) [ inl r ↦ absurd (not_given l s (restoring g cs l h) n r) | inr e ↦ e ]
@@ -215,15 +215,18 @@ module _ (t : Setup) (i : Inc) (base : List law.Placed) where
       let p = k.place in
       omega (arith, a, b, c, p)
 
+  pub sound_took : (e : Entry) (l : Life) → Lived t i (Took e ∷ l) → AlwaysSound t i base (Took e ∷ l) → Sound t i base (Took e ∷ l)
+  sound_took e l k o = o.0.0.1 (ready_here (ready_by t i base l (shape_of t i base l o.1 k.0.goes_on.begun) k.0.allowed)) (omega arith)
+    where
+      ready_here : IsReady t i l → IsReady t i (Took e ∷ l)
+      ready_here r = r
+
   pub took_at : (l : Life) (n : ℕ) (e : Entry) → Lived t i l → AlwaysSound t i base l → entry_at l n ≡ Some e → TookAt l n e
   took_at [] n e k o h = absurd (some_none (sym h))
   took_at (Took x ∷ l) n e k o h = go (x.place == n) refl h (took_at l n e k.1 o.1)
     where
       sound : Sound t i base (Took x ∷ l)
-      sound = o.0.0.1 (ready_here (ready_by t i base l (shape_of t i base l o.1 k.0.goes_on.begun) k.0.allowed)) (omega arith)
-        where
-          ready_here : IsReady t i l → IsReady t i (Took x ∷ l)
-          ready_here r = r
+      sound = sound_took x l k o
 
       long : length (lives.marked (life_of base (Took x ∷ l))) ≡ x.place
       long = places_agree t base (Took x ∷ l) sound.taking

@@ -7,3 +7,4 @@ pub mod Holders
 pub mod Marks
 pub mod Fronts
 pub mod Known
+pub mod Commits
