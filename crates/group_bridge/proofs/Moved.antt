@@ -69,6 +69,10 @@ use Rattle.group_bridge.specs.Left.{IsPast, IsOver, Fallen, Refused, Settled, Is
 use Rattle.group_bridge.specs.Moves.{Moves, Stays, Leaves, Sends, Acts, Makes, Welcomes, Then}
 use Rattle.group_bridge.proofs.Lists.{in_left, in_right, in_either}
 
+past_itself : (l : Life) → IsPast l l
+past_itself [] = refl
+past_itself (d ∷ l) = inl refl
+
 -- the message is what came last
 abbrev pub HeardLast : Message → Member → Type 0
 HeardLast m a = (past : Life) × (a.life ≡ Came (Hears m) ∷ past)
@@ -464,13 +468,14 @@ module _ (e : Event) where
   record Answers (a b : Member) : Type 0 where
     certs : certs b.life ≡ certs a.life
     executed : executed b.life ≡ executed a.life
+    past : (p : Life) → IsPast p a.life → IsPast p b.life
 
   answers_keep : (c : Cert) (ss : List ℕ) (a : Member) → Answers a (for_each (answer_commit c) ss a)
-  answers_keep c [] a = record { certs = refl; executed = refl }
+  answers_keep c [] a = record { certs = refl; executed = refl; past = λ p h. h }
   answers_keep c (s ∷ ss) a = go (asks_this c (phase a.life s)) (answers_keep c ss (last_answer s (CommittedAs c.gtid) a)) (answers_keep c ss a)
     where
       go : (x : Bool) → Answers (last_answer s (CommittedAs c.gtid) a) (for_each (answer_commit c) ss (last_answer s (CommittedAs c.gtid) a)) → Answers a (for_each (answer_commit c) ss a) → Answers a (for_each (answer_commit c) ss (elim x [ true ↦ last_answer s (CommittedAs c.gtid) a | false ↦ a ]))
-      go true y z = record { certs = y.certs; executed = y.executed }
+      go true y z = record { certs = y.certs; executed = y.executed; past = λ p h. y.past p (inr (inr h)) }
       go false y z = z
 
   own_keeps : (c : Cert) (a : Member) → Answers a (answer_own c a)
@@ -478,7 +483,7 @@ module _ (e : Event) where
     where
       go : (x : Bool) → Answers a (elim x [ true ↦ for_each (answer_commit c) (sessions a.life) a | false ↦ a ])
       go true = answers_keep c (sessions a.life) a
-      go false = record { certs = refl; executed = refl }
+      go false = record { certs = refl; executed = refl; past = λ p h. h }
 
   moves_answer_own : (c : Cert) (a : Member) → In c (certs a.life) → Moves e (push (Committed c.gtid) a) (answer_own c (push (Committed c.gtid) a))
   moves_answer_own c a k = where_true _ (λ o. moves_answers c a.life k (sessions (push (Committed c.gtid) a).life) (push (Committed c.gtid) a) o (is_last a.life)) (Stays (push (Committed c.gtid) a))
@@ -487,11 +492,11 @@ module _ (e : Event) where
       is_last l = inl refl
 
   -- those that were pending at the beginning, from one on: `since` was committed of those before it
-  moves_commits_from : (begin : Life) (rest first : List Cert) (since : List Gtid) (a : Member) → pending begin ≡ first ++ rest → ((c : Cert) → In c rest → In c (certs begin)) → certs a.life ≡ certs begin → AreOf first since → executed a.life ≡ with_all (executed begin) since → Moves e a (for_each commit_one rest a)
-  moves_commits_from begin [] first since a p k q h x = Stays a
-  moves_commits_from begin (c ∷ cs) first since a p k q h x = go (may_commit a.setup a.life a.me.inc c) refl
-      (moves_commits_from begin cs (first ++ c ∷ []) (c.gtid ∷ since) done split (λ d z. k d (inr z)) (kept.certs ∙ q) ((c, in_right c first (c ∷ []) (inl refl), refl), of_more first c since h) (kept.executed ∙ ap (λ s. with_gtid s c.gtid) x))
-      (moves_commits_from begin cs (first ++ c ∷ []) since a split (λ d z. k d (inr z)) q (of_more first c since h) x)
+  moves_commits_from : (begin : Life) (rest first : List Cert) (since : List Gtid) (a : Member) → IsPast begin a.life → pending begin ≡ first ++ rest → ((c : Cert) → In c rest → In c (certs begin)) → certs a.life ≡ certs begin → AreOf first since → executed a.life ≡ with_all (executed begin) since → Moves e a (for_each commit_one rest a)
+  moves_commits_from begin [] first since a b p k q h x = Stays a
+  moves_commits_from begin (c ∷ cs) first since a b p k q h x = go (may_commit a.setup a.life a.me.inc c) refl
+      (moves_commits_from begin cs (first ++ c ∷ []) (c.gtid ∷ since) done (kept.past begin (inr b)) split (λ d z. k d (inr z)) (kept.certs ∙ q) ((c, in_right c first (c ∷ []) (inl refl), refl), of_more first c since h) (kept.executed ∙ ap (λ s. with_gtid s c.gtid) x))
+      (moves_commits_from begin cs (first ++ c ∷ []) since a b split (λ d z. k d (inr z)) q (of_more first c since h) x)
     where
       done : Member
       done = answer_own c (push (Committed c.gtid) a)
@@ -503,7 +508,7 @@ module _ (e : Event) where
       split = p ∙ sym (append_assoc first (c ∷ []) cs)
 
       commits : may_commit a.setup a.life a.me.inc c ≡ true → Moves e a done
-      commits y = Then (Leaves (Committed c.gtid) a (record { cert = c; is_it = refl; begin = begin; first = first; rest = cs; pending = p; certs = q; since = since; earlier = h; executed = x; may = y })) (moves_answer_own c a (subst (λ l. In c l) (sym q) (k c (inl refl))))
+      commits y = Then (Leaves (Committed c.gtid) a (record { cert = c; is_it = refl; begin = begin; past = b; first = first; rest = cs; pending = p; certs = q; since = since; earlier = h; executed = x; may = y })) (moves_answer_own c a (subst (λ l. In c l) (sym q) (k c (inl refl))))
 
       go : (y : Bool) → may_commit a.setup a.life a.me.inc c ≡ y → Moves e done (for_each commit_one cs done) → Moves e a (for_each commit_one cs a) → Moves e a (for_each commit_one cs (elim y [ true ↦ done | false ↦ a ]))
       go true y z w = Then (commits y) z
@@ -529,7 +534,7 @@ module _ (e : Event) where
   pending_certified c l h = in_reverse c (certs l) (in_filter (λ d. not (has (executed l) d.gtid)) c (reverse (certs l)) h)
 
   moves_commits : (a : Member) → Moves e a (commit_all a)
-  moves_commits a = moves_commits_from a.life (pending a.life) [] [] a refl (λ c h. pending_certified c a.life h) refl tt refl
+  moves_commits a = moves_commits_from a.life (pending a.life) [] [] a (past_itself a.life) refl (λ c h. pending_certified c a.life h) refl tt refl
 
   moves_prepares_from : (cs : List Cert) (a : Member) → ((c : Cert) → In c cs → In c (pending a.life)) → Moves e a (for_each prepare_one cs a)
   moves_prepares_from [] a h = Stays a

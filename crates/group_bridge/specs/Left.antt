@@ -114,6 +114,7 @@ pub record IsCommitted (s : Setup) (i : Inc) (l : Life) (g : Gtid) : Type 0 wher
   pub cert : Cert
   pub is_it : cert.gtid ≡ g
   pub begin : Life
+  pub past : IsPast begin l
   pub first : List Cert
   pub rest : List Cert
   pub pending : pending begin ≡ first ++ cert ∷ rest
