@@ -56,7 +56,7 @@ end_none (y ∷ xs) x e = absurd (cc e)
 
 -- ---- lists
 
-all_in : {A : Type 0} (test : A → Bool) (xs : List A) (x : A) → list_all test xs ≡ true → In x xs → test x ≡ true
+pub all_in : {A : Type 0} (test : A → Bool) (xs : List A) (x : A) → list_all test xs ≡ true → In x xs → test x ≡ true
 all_in test [] x h m = absurd m
 all_in test (y ∷ ys) x h (inl e) = ap test (sym e) ∙ (and_parts (test y) (list_all test ys) h).0
 all_in test (y ∷ ys) x h (inr m) = all_in test ys x (and_parts (test y) (list_all test ys) h).1 m

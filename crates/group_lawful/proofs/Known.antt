@@ -153,7 +153,7 @@ module _ (t : Setup) (i : Inc) (base : List law.Placed) where
       go false e (inl z) f = absurd (false≢true (sym e ∙ ap test z ∙ q))
       go false e (inr z) f = f z
 
-  in_front : (xs ys : List Cert) (c : Cert) → In c xs → In c (xs ++ ys)
+  pub in_front : (xs ys : List Cert) (c : Cert) → In c xs → In c (xs ++ ys)
   in_front [] ys c h = absurd h
   in_front (x ∷ xs) ys c (inl q) = inl q
   in_front (x ∷ xs) ys c (inr h) = inr (in_front xs ys c h)

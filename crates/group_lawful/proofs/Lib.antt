@@ -8,3 +8,5 @@ pub mod Marks
 pub mod Fronts
 pub mod Known
 pub mod Commits
+pub mod Given
+pub mod Lawfuls

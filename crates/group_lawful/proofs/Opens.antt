@@ -126,7 +126,7 @@ find_some p (x ∷ cs) c h e = go (x.place == p) refl h (λ k. find_some p cs c 
     go false q (inl k) f = absurd (false≢true (sym q ∙ eq-eqb x.place p (ap (λ (y : Cert). y.place) k ∙ e)))
     go false q (inr k) f = f k
 
-in_filter : (test : Cert → Bool) (x : Cert) (xs : List Cert) → In x (filter test xs) → In x xs × (test x ≡ true)
+pub in_filter : (test : Cert → Bool) (x : Cert) (xs : List Cert) → In x (filter test xs) → In x xs × (test x ≡ true)
 in_filter test x [] h = absurd h
 in_filter test x (y ∷ ys) h = go (test y) refl h (in_filter test x ys)
   where
@@ -135,11 +135,11 @@ in_filter test x (y ∷ ys) h = go (test y) refl h (in_filter test x ys)
     go true e (inr z) k = let m = k z in (inr m.0, m.1)
     go false e z k = let m = k z in (inr m.0, m.1)
 
-in_end : (x : Cert) (xs : List Cert) (y : Cert) → In x (xs ++ y ∷ []) → (y ≡ x) ⊎ In x xs
+pub in_end : (x : Cert) (xs : List Cert) (y : Cert) → In x (xs ++ y ∷ []) → (y ≡ x) ⊎ In x xs
 in_end x [] y h = elim h [ inl q ↦ inl q | inr z ↦ absurd z ]
 in_end x (z ∷ xs) y h = elim h [ inl q ↦ inr (inl q) | inr k ↦ elim (in_end x xs y k) [ inl q ↦ inl q | inr m ↦ inr (inr m) ] ]
 
-in_reverse : (x : Cert) (xs : List Cert) → In x (reverse xs) → In x xs
+pub in_reverse : (x : Cert) (xs : List Cert) → In x (reverse xs) → In x xs
 in_reverse x [] h = h
 in_reverse x (y ∷ ys) h = elim (in_end x (reverse ys) y (subst (In x) (reverse-append (y ∷ []) ys) h)) [ inl q ↦ inl q | inr k ↦ inr (in_reverse x ys k) ]
 

@@ -57,6 +57,7 @@ pub record Sound (t : Setup) (i : Inc) (base : List law.Placed) (l : Life) : Typ
   pub knows : Knows t base l
   pub kept : IsKeptList t (lives.taken (life_of base l))
   pub adds : AddsNew t (lives.taken (life_of base l))
+  pub founded : is_founder t i ≡ true → base ≡ []
   pub joined : is_founder t i ≡ false → EndsWithAdd i base
 
 -- at each moment of the history at which it takes slots
