@@ -10,3 +10,4 @@ pub mod Known
 pub mod Commits
 pub mod Given
 pub mod Lawfuls
+pub mod Begins

@@ -163,7 +163,7 @@ module _ (t : Setup) (i : Inc) (base : List law.Placed) where
   TailStands (d ∷ l) = StandsSo l
 
   -- one that is in stays as it is
-  IsIn : seen.Standing → Type 0
+  pub IsIn : seen.Standing → Type 0
   IsIn x = (x ≡ seen.Active) ⊎ (x ≡ seen.Recovering)
 
   is_in : (x : MemberState) (b : Bool) (y : seen.Standing) → (is_up x || (is_recovering x && b)) ≡ true → StateAs x y → IsIn y
@@ -194,7 +194,7 @@ module _ (t : Setup) (i : Inc) (base : List law.Placed) where
       and_one true = refl
       and_one false = refl
 
-  entry_stays : (o : Inc) (w : What) (f : Effect) (b : Option Body) (y : seen.Standing) → IsIn y → (inc_eq o i && is_arrival b) ≡ false → is_exit i w f ≡ false → seen.stands_after i o (does_entry w f b) y ≡ y
+  pub entry_stays : (o : Inc) (w : What) (f : Effect) (b : Option Body) (y : seen.Standing) → IsIn y → (inc_eq o i && is_arrival b) ≡ false → is_exit i w f ≡ false → seen.stands_after i o (does_entry w f b) y ≡ y
   entry_stays o (Says z) f b y n h e = body_stays o b y h
   entry_stays o Noop f b y n h e = refl
   entry_stays o (Add j) Plain b y n h e = join_stays (inc_eq j.inc i) y n
@@ -217,7 +217,7 @@ module _ (t : Setup) (i : Inc) (base : List law.Placed) where
   pub ready_by : (l : Life) → Shape t i l → takes_slots l ≡ true → IsReady t i l
   ready_by l s h = elim (cases_Bool (is_founder t i)) [ inl f ↦ inl f | inr f ↦ inr (takes_after t i l s h f).2 ]
 
-  in_before : (e : Entry) (l : Life) → LivedDid t i (Took e) l → Shape t i l → StandsSo l → IsIn (stand l)
+  pub in_before : (e : Entry) (l : Life) → LivedDid t i (Took e) l → Shape t i l → StandsSo l → IsIn (stand l)
   in_before e l h s k = is_in (state l) (has_give l) (stand l) h.allowed (k (ready_by l s h.allowed) h.goes_on.begun h.goes_on.settled)
 
   took_stays : (e : Entry) (l : Life) → LivedDid t i (Took e) l → Shape t i l → StandsSo l → is_settled i (Took e ∷ l) ≡ true → StateAs (state l) (stand (Took e ∷ l))
@@ -257,7 +257,7 @@ module _ (t : Setup) (i : Inc) (base : List law.Placed) where
   first_stands x c l (inr f) h (inl r) = let z = subst (Lived t i) f.1 h in absurd (false≢true (sym z.0.1 ∙ r))
 
   -- what a joiner is given says that it has joined
-  given_stands : (l : Life) (g : Give) (cs : List Cert) → Sound t i base (Restores g cs ∷ l) → is_founder t i ≡ false → seen.standing t (law.values base) i ≡ seen.Recovering
+  pub given_stands : (l : Life) (g : Give) (cs : List Cert) → Sound t i base (Restores g cs ∷ l) → is_founder t i ≡ false → seen.standing t (law.values base) i ≡ seen.Recovering
   given_stands l g cs o f =
       let n = o.joined f in
       let a : AddsNew t (n.add.value ∷ law.values n.rest) = subst (λ y. AddsNew t (law.values y)) n.is_base o.adds in

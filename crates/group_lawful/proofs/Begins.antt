@@ -1,0 +1,377 @@
+-- A begin that is answered: what it waited for holds.
+use Rattle.std.proofs.Common.{◌≡◌, ◌⊎◌, inl, inr, ℕ, suc, ◌+◌, ◌≤◌, ◌<◌, Bool, true, false, cond, not, ◌&&◌, ◌||◌, Option, Some, None, List, [], ◌∷◌, ◌++◌, refl, sym, ap, subst, ◌∙◌, length, eqb, arith}
+use Rattle.std.specs.Prelude.{◌==◌, if◌then◌else◌, nat_lt, nat_le, filter, map, reverse}
+use Rattle.std.specs.List.{list_any, list_all}
+use Rattle.std.proofs.lemmas.Bool.{false≢true, cases_Bool, or_cases, or_left, or_right, and_parts, and_from, not-true, leb-true, leb-false, lt-leb, le-leb, eqb-true}
+use Rattle.gr_ids.specs.Names.{inc_eq, has_inc, gtid_eq}
+use Rattle.gr_ids.specs.declared.names.Inc.{Inc}
+use Rattle.gr_ids.specs.declared.names.Gtid.{Gtid}
+use Rattle.gtid_sets.specs.Sets.{Gtids, has, with_gtid}
+use Rattle.gtid_sets.specs.Canonical.{IsCanonical, IsUuid, IsNumber}
+use Rattle.gtid_sets.proofs.LawLemmas.{all_with_gtid}
+use Rattle.gtid_sets.proofs.PutLemmas.{canonical_with_gtid}
+use Rattle.slot_values.specs.declared.value.What.{What}
+use Rattle.slot_values.specs.declared.value.What.TheVariants.{Noop, Add, Remove, Body as Says}
+use Rattle.txn_forms.specs.declared.body.Body.{Body}
+use Rattle.txn_forms.specs.declared.body.Body.TheVariants.{Txn as Writes, Prepared, Sync, Executed, Online as Arrives, Mode as Switches, Primary as Appoints, Part as PartOf}
+use Rattle.txn_forms.specs.declared.body.Txn.{Txn}
+use Rattle.node_rules.specs.Lists.{In}
+use Rattle.node_rules.specs.declared.seat.Seat.{Seat}
+use Rattle.node_rules.proofs.Incs.{inc_is, inc_same}
+use Rattle.group_rules.specs.declared.marks.Effect.{Effect}
+use Rattle.group_rules.specs.Events.{Did, Founds, Starts, Came, Made, Took, Skips, Done, Committed, Is, Gave, Answered, Begun, Changed, Replied, Called, AsksCommit, Ends, Enters, Restores, AskFails, Hears, Ticks, Works, Calls, Operates, Life, Setup, Entry, Cert}
+use Rattle.group_bridge.specs.Moves.{slots_in}
+use Rattle.group_rules.specs.Life.{state, is_up, is_error, is_recovering, executed, certs, view, taken, last_made, own_place, online_place, is_arrival, has_give}
+use Rattle.group_rules.specs.View.{View, online_incs, online_seats, seated, is_online_state, is_online, is_seated}
+use Rattle.group_rules.specs.Queue.{pending, is_done, is_own, all_below}
+use Rattle.group_rules.specs.Commit.{is_prepared}
+use Rattle.group_bridge.specs.Left as left
+use Rattle.group_bridge.specs.Left.{IsBegun, is_arrival_of, is_exit_of, is_settled}
+use Rattle.group_runs.specs.Runs.{is_founder}
+use Rattle.group_order.specs.OneLog.{IsReady}
+use Rattle.group_order.proofs.Shapes.{Shape}
+use Rattle.group_rules.specs.Sessions.{Call, one_tick, last_call}
+use Rattle.group_rules.specs.Holds.{is_eventual, has_sync, after_then, sync_then, elected_in, elected_then, online_then, conditions, standing_of, standing, is_pending as is_waiting, is_clear, is_clear_at, is_synced, is_met, sync_place, is_released}
+use Rattle.group_rules.specs.declared.holds.Conditions.{Conditions}
+use Rattle.group_rules.specs.declared.holds.Pending.{Pending}
+use Rattle.gr_ids.specs.declared.levels.Level.{Level}
+use Rattle.gr_ids.specs.declared.names.ValueId.{ValueId}
+use Rattle.gr_ids.specs.declared.levels.MemberState.{MemberState}
+use Rattle.gr_ids.specs.declared.levels.MemberState.TheVariants.{Offline, Recovering, Online, Error}
+use Rattle.gr_ids.specs.Names.{is_inc}
+use Rattle.group_rules.specs.View.{is_single}
+use Rattle.group_lives.specs.Lives.{sync_number}
+use Rattle.group_laws.specs.Lists as listing
+use Rattle.group_laws.specs.Lists.{Mem}
+use Rattle.group_laws.specs.Entries as law
+use Rattle.group_laws.specs.View as seen
+use Rattle.group_laws.specs.Primary as primary
+use Rattle.group_laws.specs.Life as lives
+use Rattle.group_laws.proofs.Lists.{IsPast-self, IsPast-nil}
+use Rattle.group_laws.specs.Lawful as lawful
+use Rattle.group_laws.specs.Lawful.{IsPrepared, HasAll, Synced, Holds}
+use Rattle.group_laws.proofs.Lists.{any_from}
+use Rattle.group_laws.proofs.Names.{gtid_eq_same, gtid_eq_itself}
+use Rattle.group_laws.proofs.Views.{before_online_le, online_place as same_before}
+use Rattle.group_laws.proofs.Acks.{gone_rank, upto_is_past, values_past}
+use Rattle.group_lives.specs.Lives.{does_entry, placed, life_of}
+use Rattle.group_lives.specs.Sound.{IsEffect, IsTaking, HasSets, AddsNew}
+use Rattle.group_lives.proofs.Sets.{canonical, executed_agrees}
+use Rattle.group_lives.proofs.Taking.{places_agree, views_agree, skip_made, skip_answer, skip_state}
+use Rattle.group_lives.proofs.Standings.{StandsAs, stands}
+use Rattle.group_lives.proofs.Stable.{is_there}
+use Rattle.group_lawful.specs.Lived.{LivedDid, Lived}
+use Rattle.group_lawful.specs.Knows.{Alike, certified_of, Descends, Knows, Sound, AlwaysSound}
+use Rattle.group_lawful.proofs.Opens.{in_pending, sound_where, ready_or, unready}
+use Rattle.group_lawful.proofs.Marks.{lived_past, sound_past, past_tail}
+use Rattle.group_lawful.proofs.Known.{sets_past, executed_stays, certs_stay, is_pending, sound_took, empty_before}
+use Rattle.group_lawful.proofs.Commits.{all_in, SameSets, prepared_back}
+use Rattle.group_lawful.proofs.Sessions.{law_call, calls, call_as}
+use Rattle.group_lawful.proofs.States.{stand, StateAs, stands_so, fallen_is, entry_stays, in_before, shape_of, given_stands}
+use Rattle.group_lawful.proofs.Given.{cert_place}
+
+
+end_none : (xs : List ℕ) (x : ℕ) → xs ++ x ∷ [] ≡ [] → ⊥
+end_none [] x e = absurd (cc e)
+end_none (y ∷ xs) x e = absurd (cc e)
+
+some_none : {A : Type 0} {x : A} → Some x ≡ None → ⊥
+some_none e = absurd (cc e)
+
+some_is : {A : Type 0} {x y : A} → Some x ≡ Some y → x ≡ y
+some_is {x = x} {y = y} e = cc
+
+in_map : {A B : Type 0} (f : A → B) (x : A) (xs : List A) → In x xs → In (f x) (map f xs)
+in_map f x [] h = absurd h
+in_map f x (y ∷ ys) (inl e) = inl (ap f e)
+in_map f x (y ∷ ys) (inr h) = inr (in_map f x ys h)
+
+any_in : {A : Type 0} (test : A → Bool) (xs : List A) (x : A) → In x xs → test x ≡ true → list_any test xs ≡ true
+any_in test [] x h e = absurd h
+any_in test (y ∷ ys) x (inl q) e = or_left (test y) (list_any test ys) (ap test q ∙ e)
+any_in test (y ∷ ys) x (inr h) e = or_right (test y) (list_any test ys) (any_in test ys x h e)
+
+filter_in : (test : Cert → Bool) (c : Cert) (xs : List Cert) → In c xs → test c ≡ true → In c (filter test xs)
+filter_in test c [] h q = absurd h
+filter_in test c (x ∷ xs) h q = go (test x) refl h (λ k. filter_in test c xs k q)
+  where
+    go : (b : Bool) → test x ≡ b → (x ≡ c) ⊎ In c xs → (In c xs → In c (filter test xs)) → In c (if b then x ∷ filter test xs else filter test xs)
+    go true e (inl z) f = inl z
+    go true e (inr z) f = inr (f z)
+    go false e (inl z) f = absurd (false≢true (sym e ∙ ap test z ∙ q))
+    go false e (inr z) f = f z
+
+-- ---- the call
+
+pub call_past : (l : Life) (s : ℕ) (c : Call) → last_call l s ≡ Some c → (w : ℕ) × left.IsPast (Called s c.level w ∷ c.past) l
+call_past [] s c h = absurd (some_none (sym h))
+call_past (Called u v w ∷ l) s c h = go (u == s) refl h (call_past l s c)
+  where
+    go : (b : Bool) → (u == s) ≡ b → ◌≡◌ {A = Option Call} (elim b [ true ↦ Some (record { level = v; limit = w; past = l; ticks = 0 }) | false ↦ last_call l s ]) (Some c) → (last_call l s ≡ Some c → (w : ℕ) × left.IsPast (Called s c.level w ∷ c.past) l) → (y : ℕ) × left.IsPast (Called s c.level y ∷ c.past) (Called u v w ∷ l)
+    go true e q f =
+        let z = some_is q in
+        let n : u ≡ s = eqb-true u s e in
+        (w, inl (sym (λ k. Called (n k) (z k).level w ∷ (z k).past)))
+    go false e q f = let r = f q in (r.0, inr r.1)
+call_past (Came Ticks ∷ l) s c h = go (last_call l s) refl h (call_past l s)
+  where
+    go : (o : Option Call) → last_call l s ≡ o → one_tick o ≡ Some c → ((d : Call) → last_call l s ≡ Some d → (w : ℕ) × left.IsPast (Called s d.level w ∷ d.past) l) → (w : ℕ) × left.IsPast (Called s c.level w ∷ c.past) (Came Ticks ∷ l)
+    go None e q f = absurd (some_none (sym q))
+    go (Some d) e q f = let r = f d e in let z = some_is q in (r.0, inr (subst (λ (y : Call). left.IsPast (Called s y.level r.0 ∷ y.past) l) z r.1))
+call_past (Came (Hears m) ∷ l) s c h = let r = call_past l s c h in (r.0, inr r.1)
+call_past (Came (Works z y) ∷ l) s c h = let r = call_past l s c h in (r.0, inr r.1)
+call_past (Came (Calls z y) ∷ l) s c h = let r = call_past l s c h in (r.0, inr r.1)
+call_past (Came (Operates z) ∷ l) s c h = let r = call_past l s c h in (r.0, inr r.1)
+call_past (Skips u v ∷ l) s c h = let r = call_past l s c h in (r.0, inr r.1)
+call_past (Gave n j ∷ l) s c h = let r = call_past l s c h in (r.0, inr r.1)
+call_past (Replied r ∷ l) s c h = let r = call_past l s c h in (r.0, inr r.1)
+call_past (AskFails ∷ l) s c h = let r = call_past l s c h in (r.0, inr r.1)
+call_past (Founds ∷ l) s c h = let r = call_past l s c h in (r.0, inr r.1)
+call_past (Enters z ∷ l) s c h = let r = call_past l s c h in (r.0, inr r.1)
+call_past (Starts x ∷ l) s c h = let r = call_past l s c h in (r.0, inr r.1)
+call_past (Committed y ∷ l) s c h = let r = call_past l s c h in (r.0, inr r.1)
+call_past (Done p ∷ l) s c h = let r = call_past l s c h in (r.0, inr r.1)
+call_past (Begun u y z ∷ l) s c h = let r = call_past l s c h in (r.0, inr r.1)
+call_past (Changed u z ∷ l) s c h = let r = call_past l s c h in (r.0, inr r.1)
+call_past (AsksCommit u y ∷ l) s c h = let r = call_past l s c h in (r.0, inr r.1)
+call_past (Ends u ∷ l) s c h = let r = call_past l s c h in (r.0, inr r.1)
+call_past (Took e ∷ l) s c h = let r = call_past l s c h in (r.0, inr r.1)
+call_past (Made v y ∷ l) s c h = let r = call_past l s c h in (r.0, inr r.1)
+call_past (Answered u y ∷ l) s c h = let r = call_past l s c h in (r.0, inr r.1)
+call_past (Is y z ∷ l) s c h = let r = call_past l s c h in (r.0, inr r.1)
+call_past (Restores y cs ∷ l) s c h = let r = call_past l s c h in (r.0, inr r.1)
+
+-- ---- what is pending
+
+module _ (t : Setup) (i : Inc) (base : List law.Placed) where
+  -- of the certified ones all below a place are executed where none of them is pending
+  clear_has : (l : Life) (p : ℕ) (c : Cert) → is_clear (standing l) p ≡ true → In c (certs l) → c.place < p → has (executed l) c.gtid ≡ true
+  clear_has l p c h m n = elim (cases_Bool (has (executed l) c.gtid)) [
+    | inl q ↦ q
+    | inr q ↦ (let z = all_in (λ (x : Pending). not (nat_lt x.place p)) (standing l) (standing_of c) h (in_map standing_of c (pending l) (is_pending t i base l c m q)) in
+        absurd (false≢true (sym (ap not (le-leb (suc c.place) p n)) ∙ z)))
+  ]
+
+  waits_no_more : (l : Life) (c : Cert) → is_waiting (standing l) c.gtid ≡ false → In c (certs l) → has (executed l) c.gtid ≡ true
+  waits_no_more l c h m = elim (cases_Bool (has (executed l) c.gtid)) [
+    | inl q ↦ q
+    | inr q ↦ absurd (false≢true (sym h ∙ any_in (λ (x : Pending). gtid_eq x.gtid c.gtid) (standing l) (standing_of c) (in_map standing_of c (pending l) (is_pending t i base l c m q)) (gtid_eq_itself c.gtid)))
+  ]
+
+  -- ---- moments
+
+  abbrev MomentOf : Life → Type 0
+  MomentOf l = (Lived t i l × AlwaysSound t i base l) × HasSets l
+
+  abbrev Same : Life → Type 0
+  Same l = SameSets t i base l
+
+  same_at : (l : Life) → HasSets l → SameSets t i base l
+  same_at l h g = executed_agrees base l g h
+
+  -- what was certified at an earlier moment and below a place is executed now, where nothing is pending below it
+  all_below_now : (p l : Life) → left.IsPast p l → MomentOf l → Sound t i base p → (n : ℕ) → is_clear (standing l) n ≡ true → (d : law.Cert) → Mem d (certified_of t base p) → d.place < n → lives.executed (life_of base l) d.gtid ≡ true
+  all_below_now p l h m s n c d e le = same_at l m.1 d.gtid ∙ elim (s.knows.all d e) [
+    | inr q ↦ executed_stays t i base l p d.gtid h m.0.0 m.1 q
+    | inl q ↦ (let a = q.2.place in ap (has (executed l)) (sym q.2.gtid) ∙ clear_has l n q.0 c (certs_stay t i base l p q.0 h m.0.0 m.0.1 q.1) (omega (arith, a, le)))
+  ]
+
+  -- one that knows a certified transaction by its life is ready
+  pub sound_listed : (l : Life) → AlwaysSound t i base l → (d : law.Cert) → Mem d (certified_of t base l) → Sound t i base l
+  sound_listed [] o d m = absurd m
+  sound_listed (y ∷ l) o d m = elim (ready_or t i base (y ∷ l) o.0.0.0) [
+    | inl r ↦ o.0.0.1 r (omega arith)
+    | inr e ↦ (let k = unready t i base (y ∷ l) e.0 e.1 in absurd (subst (λ x. Mem d (law.certified t x)) k.1 m))
+  ]
+
+  -- ---- the states of one that takes part
+
+  -- a call comes at a moment when nothing is missing
+  record AtCall (p : Life) : Type 0 where
+    begun : 1 < length p
+    settled : is_settled i p ≡ true
+
+  at_call : (p : Life) (s : ℕ) (v : Level) (w : ℕ) → LivedDid t i (Called s v w) p → AtCall p
+  at_call p s v w h = let z = h.allowed.1 in record { begun = h.goes_on.begun; settled = subst (λ y. is_settled i y ≡ true) (sym z.1) refl }
+
+  not_offline : (x : MemberState) (y : seen.Standing) → StateAs t i base x y → is_error x ≡ false → (is_up x || is_recovering x) ≡ true
+  not_offline Offline y h e = absurd h
+  not_offline Recovering y h e = refl
+  not_offline Online y h e = refl
+  not_offline Error y h e = absurd (false≢true (sym e))
+
+  active_up : (x : MemberState) (y : seen.Standing) → StateAs t i base x y → is_error x ≡ false → seen.is_active y ≡ true → is_up x ≡ true
+  active_up Offline y h e a = absurd h
+  active_up Recovering y h e a = absurd (false≢true (sym (ap seen.is_active h) ∙ a))
+  active_up Online y h e a = refl
+  active_up Error y h e a = absurd (false≢true (sym e))
+
+  unfallen : (p : Life) → Lived t i p → list_any lives.is_fall (life_of base p) ≡ false → is_error (state p) ≡ false
+  unfallen p k h = sym (fallen_is t i base p k) ∙ h
+
+  -- ONLINE by the life is ONLINE by the own state
+  pub online_up : (p : Life) → MomentOf p → 1 < length p → is_settled i p ≡ true → lives.online t i (life_of base p) ≡ true → (is_up (state p) ≡ true) × Sound t i base p
+  online_up p m b z h = elim (cases_Bool (is_founder t i)) [
+    | inl f ↦ ready (inl f)
+    | inr f ↦ elim (ready_or t i base p (shape_of t i base p m.0.1 b)) [ inl r ↦ ready r | inr e ↦ absurd (not_active f e) ]
+  ]
+    where
+      n : (not (list_any lives.is_fall (life_of base p)) ≡ true) × (seen.active t (lives.taken (life_of base p)) i ≡ true)
+      n = and_parts (not (list_any lives.is_fall (life_of base p))) (seen.active t (lives.taken (life_of base p)) i) h
+
+      not_active : is_founder t i ≡ false → (slots_in p ≡ []) × (has_give p ≡ false) → ⊥
+      not_active f e = absurd (false≢true (sym (ap (λ b. seen.is_active (cond b seen.Active seen.Absent)) f) ∙ sym (ap (λ y. seen.active t (law.values y) i) (unready t i base p e.0 e.1).1) ∙ n.1))
+
+      sound_at : (p : Life) → AlwaysSound t i base p → IsReady t i p → 1 < length p → Sound t i base p
+      sound_at [] o r b = absurd (omega (arith, b))
+      sound_at (d ∷ p) o r b = o.0.0.1 r (omega arith)
+
+      ready : IsReady t i p → (is_up (state p) ≡ true) × Sound t i base p
+      ready r =
+          let q = (stands_so t i base p m.0.0 m.0.1).0 r b z in
+          (active_up (state p) (stand t i base p) q (unfallen p m.0.0 (not-true (list_any lives.is_fall (life_of base p)) n.0)) n.1, sound_at p m.0.1 r b)
+
+  -- ---- AFTER transactions that were prepared
+
+  -- those that the begin waits for
+  waited_after : (p : Life) (c : Cert) → (is_up (state p) || is_recovering (state p)) ≡ true → In c (pending p) → c.txn.after ≡ true → is_prepared p i c ≡ true → In c.gtid (after_then i p)
+  waited_after p c u m a h =
+      subst (λ b. In c.gtid (elim b [ false ↦ [] | true ↦ map {A = Cert} (λ y. y.gtid) (filter (λ y. y.txn.after && is_prepared p i y) (pending p)) ])) (sym u)
+      (in_map (λ (y : Cert). y.gtid) c (filter (λ y. y.txn.after && is_prepared p i y) (pending p)) (filter_in (λ (y : Cert). y.txn.after && is_prepared p i y) c (pending p) m (and_from c.txn.after (is_prepared p i c) a h)))
+
+  after_held : (p l : Life) → left.IsPast p l → MomentOf l → 1 < length p → is_settled i p ≡ true → list_all (λ g. not (is_waiting (standing l) g)) (after_then i p) ≡ true → list_any lives.is_fall (life_of base p) ≡ false
+      → (d : law.Cert) → d.txn.after ≡ true → IsPrepared t (life_of base p) i d → lives.executed (life_of base l) d.gtid ≡ true
+  after_held p l h m b z w f d a pr = same_at l m.1 d.gtid ∙ elim (sound.knows.all d pr.0) [
+    | inr q ↦ executed_stays t i base l p d.gtid h m.0.0 m.1 q
+    | inl q ↦ ap (has (executed l)) (sym q.2.gtid) ∙ elim (cases_Bool (has (executed p) (q.0).gtid)) [
+      | inl y ↦ executed_stays t i base l p (q.0).gtid h m.0.0 m.1 y
+      | inr y ↦ (let pend = is_pending t i base p q.0 q.1 y in
+          let n = waited_after p q.0 up pend (ap (λ (u : Txn). u.after) q.2.txn ∙ a) (prepared_back t i base p sound (same_at p sets) q.0 d q.2 pr) in
+          waits_no_more l q.0 (not-true (is_waiting (standing l) (q.0).gtid) (all_in (λ (g : Gtid). not (is_waiting (standing l) g)) (after_then i p) (q.0).gtid w n)) (certs_stay t i base l p q.0 h m.0.0 m.0.1 q.1))
+    ]
+  ]
+    where
+      sets : HasSets p
+      sets = sets_past p l h m.1
+
+      lived : Lived t i p
+      lived = lived_past t i p l h m.0.0
+
+      sounds : AlwaysSound t i base p
+      sounds = sound_past t i base p l h m.0.1
+
+      sound : Sound t i base p
+      sound = sound_listed p sounds d pr.0
+
+      is_ready : (r : IsReady t i p ⊎ ((slots_in p ≡ []) × (has_give p ≡ false))) → IsReady t i p
+      is_ready (inl r) = r
+      is_ready (inr e) = absurd (subst (λ x. Mem d (law.certified t x)) (unready t i base p e.0 e.1).1 pr.0)
+
+      up : (is_up (state p) || is_recovering (state p)) ≡ true
+      up = not_offline (state p) (stand t i base p) ((stands_so t i base p lived sounds).0 (is_ready (ready_or t i base p (shape_of t i base p sounds b))) b z) (unfallen p lived f)
+
+  -- ---- the Sync
+
+  -- the own value of this number, with the list before it
+  record OwnEntry (l : Life) (n p : ℕ) : Type 0 where
+    value : law.Value
+    front : List law.Value
+    there : listing.IsPast (value ∷ front) (lives.taken (life_of base l))
+    origin : value.origin ≡ i
+    number : value.number ≡ n
+    place : p ≡ suc (length front)
+
+  more_entries : (d : Did) (l : Life) (n p : ℕ) → lives.marked (life_of base (d ∷ l)) ≡ lives.marked (life_of base l) → OwnEntry l n p → OwnEntry (d ∷ l) n p
+  more_entries d l n p e o = record { value = o.value; front = o.front; there = subst (λ x. listing.IsPast (o.value ∷ o.front) (law.values x)) (sym e) o.there; origin = o.origin; number = o.number; place = o.place }
+
+  none_own : (l : Life) (n : ℕ) → slots_in l ≡ [] → own_place l i n ≡ None
+  none_own [] n h = refl
+  none_own (Took e ∷ l) n h = absurd (end_none (slots_in l) e.slot h)
+  none_own (Skips u v ∷ l) n h = absurd (end_none (slots_in l) u h)
+  none_own (Came (Hears m) ∷ l) n h = none_own l n h
+  none_own (Came Ticks ∷ l) n h = none_own l n h
+  none_own (Came (Works z y) ∷ l) n h = none_own l n h
+  none_own (Came (Calls z y) ∷ l) n h = none_own l n h
+  none_own (Came (Operates z) ∷ l) n h = none_own l n h
+  none_own (Gave m j ∷ l) n h = none_own l n h
+  none_own (Replied r ∷ l) n h = none_own l n h
+  none_own (AskFails ∷ l) n h = none_own l n h
+  none_own (Founds ∷ l) n h = none_own l n h
+  none_own (Enters z ∷ l) n h = none_own l n h
+  none_own (Starts x ∷ l) n h = none_own l n h
+  none_own (Committed y ∷ l) n h = none_own l n h
+  none_own (Done q ∷ l) n h = none_own l n h
+  none_own (Begun u y z ∷ l) n h = none_own l n h
+  none_own (Changed u z ∷ l) n h = none_own l n h
+  none_own (Called u v w ∷ l) n h = none_own l n h
+  none_own (AsksCommit u y ∷ l) n h = none_own l n h
+  none_own (Ends u ∷ l) n h = none_own l n h
+  none_own (Made v y ∷ l) n h = none_own l n h
+  none_own (Answered u y ∷ l) n h = none_own l n h
+  none_own (Is y z ∷ l) n h = none_own l n h
+  none_own (Restores y cs ∷ l) n h = none_own l n h
+
+  values_long : (xs : List law.Placed) → length (law.values xs) ≡ length xs
+  values_long [] = refl
+  values_long (x ∷ xs) = ap suc (values_long xs)
+
+  own_entry : (l : Life) (n p : ℕ) → Lived t i l → AlwaysSound t i base l → own_place l i n ≡ Some p → OwnEntry l n p
+  own_entry [] n p k o h = absurd (some_none (sym h))
+  own_entry (Took e ∷ l) n p k o h = go (inc_eq e.value.id.origin i && (e.value.id.number == n)) refl h (own_entry l n p k.1 o.1)
+    where
+      go : (b : Bool) → (inc_eq e.value.id.origin i && (e.value.id.number == n)) ≡ b → ◌≡◌ {A = Option ℕ} (elim b [ true ↦ Some e.place | false ↦ own_place l i n ]) (Some p) → (own_place l i n ≡ Some p → OwnEntry l n p) → OwnEntry (Took e ∷ l) n p
+      go true q z f =
+          let x = and_parts (inc_eq e.value.id.origin i) (e.value.id.number == n) q in
+          let s = sound_took t i base e l k o in
+          let a = s.taking.0.0 in
+          let long : length (lives.taken (life_of base l)) ≡ taken l = values_long (lives.marked (life_of base l)) ∙ places_agree t base l s.taking.1 in
+          let y : e.place ≡ p = some_is z in
+          record { value = (placed e).value; front = lives.taken (life_of base l); there = inl refl; origin = inc_is e.value.id.origin i x.0; number = eqb-true e.value.id.number n x.1; place = sym y ∙ a ∙ ap suc (sym long) }
+      go false q z f = let r = f z in record { value = r.value; front = r.front; there = inr r.there; origin = r.origin; number = r.number; place = r.place }
+  own_entry (Restores y cs ∷ l) n p k o h = absurd (some_none (sym h ∙ none_own l n (empty_before t i base y cs l k.0 o.1 o.0.1).0))
+  own_entry (Made v y ∷ l) n p k o h = more_entries (Made v y) l n p (skip_made v y l (life_of base l)) (own_entry l n p k.1 o.1 h)
+  own_entry (Answered u y ∷ l) n p k o h = more_entries (Answered u y) l n p (skip_answer base u y l (life_of base l)) (own_entry l n p k.1 o.1 h)
+  own_entry (Is y z ∷ l) n p k o h = more_entries (Is y z) l n p (skip_state base y z l (life_of base l)) (own_entry l n p k.1 o.1 h)
+  own_entry (Came (Hears m) ∷ l) n p k o h = more_entries (Came (Hears m)) l n p refl (own_entry l n p k.1 o.1 h)
+  own_entry (Came Ticks ∷ l) n p k o h = more_entries (Came Ticks) l n p refl (own_entry l n p k.1 o.1 h)
+  own_entry (Came (Works z y) ∷ l) n p k o h = more_entries (Came (Works z y)) l n p refl (own_entry l n p k.1 o.1 h)
+  own_entry (Came (Calls z y) ∷ l) n p k o h = more_entries (Came (Calls z y)) l n p refl (own_entry l n p k.1 o.1 h)
+  own_entry (Came (Operates z) ∷ l) n p k o h = more_entries (Came (Operates z)) l n p refl (own_entry l n p k.1 o.1 h)
+  own_entry (Skips u v ∷ l) n p k o h = more_entries (Skips u v) l n p refl (own_entry l n p k.1 o.1 h)
+  own_entry (Gave m j ∷ l) n p k o h = more_entries (Gave m j) l n p refl (own_entry l n p k.1 o.1 h)
+  own_entry (Replied r ∷ l) n p k o h = more_entries (Replied r) l n p refl (own_entry l n p k.1 o.1 h)
+  own_entry (AskFails ∷ l) n p k o h = more_entries AskFails l n p refl (own_entry l n p k.1 o.1 h)
+  own_entry (Founds ∷ l) n p k o h = more_entries Founds l n p refl (own_entry l n p k.1 o.1 h)
+  own_entry (Enters z ∷ l) n p k o h = more_entries (Enters z) l n p refl (own_entry l n p k.1 o.1 h)
+  own_entry (Starts x ∷ l) n p k o h = more_entries (Starts x) l n p refl (own_entry l n p k.1 o.1 h)
+  own_entry (Committed y ∷ l) n p k o h = more_entries (Committed y) l n p refl (own_entry l n p k.1 o.1 h)
+  own_entry (Done q ∷ l) n p k o h = more_entries (Done q) l n p refl (own_entry l n p k.1 o.1 h)
+  own_entry (Begun u y z ∷ l) n p k o h = more_entries (Begun u y z) l n p refl (own_entry l n p k.1 o.1 h)
+  own_entry (Changed u z ∷ l) n p k o h = more_entries (Changed u z) l n p refl (own_entry l n p k.1 o.1 h)
+  own_entry (Called u v w ∷ l) n p k o h = more_entries (Called u v w) l n p refl (own_entry l n p k.1 o.1 h)
+  own_entry (AsksCommit u y ∷ l) n p k o h = more_entries (AsksCommit u y) l n p refl (own_entry l n p k.1 o.1 h)
+  own_entry (Ends u ∷ l) n p k o h = more_entries (Ends u) l n p refl (own_entry l n p k.1 o.1 h)
+
+  past_here : (l : Life) → left.IsPast l l
+  past_here [] = refl
+  past_here (d ∷ l) = inl refl
+
+  synced : (l : Life) → MomentOf l → (v : Level) (p : Life) → has_sync v ≡ true → is_synced (standing l) (sync_then i v p) (sync_place i (sync_then i v p) l) ≡ true → Synced t (life_of base l) i (law_call t i base (record { level = v; limit = 0; past = p; ticks = 0 }))
+  synced l m v p y h = go (own_place l i (suc (last_made p))) refl (by_sync y h)
+    where
+      by_sync : has_sync v ≡ true → is_synced (standing l) (sync_then i v p) (sync_place i (sync_then i v p) l) ≡ true → is_synced (standing l) (Some (record { origin = i; number = suc (last_made p) })) (own_place l i (suc (last_made p))) ≡ true
+      by_sync y h = subst (λ (o : Option ValueId). is_synced (standing l) o (sync_place i o l) ≡ true) (ap (λ b. elim b [ true ↦ Some (record { origin = i; number = suc (last_made p) }) | false ↦ None ]) y) h
+
+      go : (o : Option ℕ) → own_place l i (suc (last_made p)) ≡ o → is_synced (standing l) (Some (record { origin = i; number = suc (last_made p) })) o ≡ true → Synced t (life_of base l) i (law_call t i base (record { level = v; limit = 0; past = p; ticks = 0 }))
+      go None e q = absurd (false≢true q)
+      go (Some n) e q =
+          let r = own_entry l (suc (last_made p)) n m.0.0 m.0.1 e in
+          record {
+            value = r.value;
+            front = r.front;
+            there = r.there;
+            origin = r.origin;
+            number = r.number ∙ sym (ap (λ b. elim b [ true ↦ suc (last_made p) | false ↦ 0 ]) y);
+            all = λ d z le. let a = r.place in all_below_now l l (past_here l) m (sound_listed l m.0.1 d z) n q d z (omega (arith, a, le));
+          }
+
