@@ -19,6 +19,7 @@ use Rattle.node_rules.specs.Lists.{In}
 use Rattle.node_rules.specs.declared.seat.Seat.{Seat}
 use Rattle.node_rules.proofs.Incs.{inc_is, inc_same}
 use Rattle.group_rules.specs.declared.marks.Effect.{Effect}
+use Rattle.group_rules.specs.declared.marks.Effect.TheVariants.{Plain, Void, Unread, Positive, Conflict}
 use Rattle.group_rules.specs.Events.{Did, Founds, Starts, Came, Made, Took, Skips, Done, Committed, Is, Gave, Answered, Begun, Changed, Replied, Called, AsksCommit, Ends, Enters, Restores, AskFails, Hears, Ticks, Works, Calls, Operates, Life, Setup, Entry, Cert}
 use Rattle.group_bridge.specs.Moves.{slots_in}
 use Rattle.group_rules.specs.Life.{state, is_up, is_error, is_recovering, executed, certs, view, taken, last_made, own_place, online_place, is_arrival, has_give}
@@ -26,7 +27,7 @@ use Rattle.group_rules.specs.View.{View, online_incs, online_seats, seated, is_o
 use Rattle.group_rules.specs.Queue.{pending, is_done, is_own, all_below}
 use Rattle.group_rules.specs.Commit.{is_prepared}
 use Rattle.group_bridge.specs.Left as left
-use Rattle.group_bridge.specs.Left.{IsBegun, is_arrival_of, is_exit_of, is_settled}
+use Rattle.group_bridge.specs.Left.{IsBegun, is_arrival_of, is_exit, is_settled}
 use Rattle.group_runs.specs.Runs.{is_founder}
 use Rattle.group_order.specs.OneLog.{IsReady}
 use Rattle.group_order.proofs.Shapes.{Shape}
@@ -39,7 +40,10 @@ use Rattle.gr_ids.specs.declared.names.ValueId.{ValueId}
 use Rattle.gr_ids.specs.declared.levels.MemberState.{MemberState}
 use Rattle.gr_ids.specs.declared.levels.MemberState.TheVariants.{Offline, Recovering, Online, Error}
 use Rattle.gr_ids.specs.Names.{is_inc}
-use Rattle.group_rules.specs.View.{is_single}
+use Rattle.group_rules.specs.View.{is_single, has_primary, elect, joiners, with_primary, settled, with_named, changed_view, next_view, void_if}
+use Rattle.gr_ids.specs.declared.levels.Mode.TheVariants.{Single as IsSingle, Multi}
+use Rattle.txn_forms.specs.declared.body.ModeChange.TheVariants.{Multi as ToMulti, Single as ToSingle}
+use Rattle.slot_values.specs.declared.value.Joiner.{Joiner}
 use Rattle.group_lives.specs.Lives.{sync_number}
 use Rattle.group_laws.specs.Lists as listing
 use Rattle.group_laws.specs.Lists.{Mem}
@@ -67,7 +71,7 @@ use Rattle.group_lawful.proofs.Marks.{lived_past, sound_past, past_tail}
 use Rattle.group_lawful.proofs.Known.{sets_past, executed_stays, certs_stay, is_pending, sound_took, empty_before}
 use Rattle.group_lawful.proofs.Commits.{all_in, SameSets, prepared_back}
 use Rattle.group_lawful.proofs.Sessions.{law_call, calls, call_as}
-use Rattle.group_lawful.proofs.States.{stand, StateAs, stands_so, fallen_is, entry_stays, in_before, shape_of, given_stands}
+use Rattle.group_lawful.proofs.States.{stand, StateAs, StandsSo, stands_so, fallen_is, entry_stays, in_before, shape_of, given_stands}
 use Rattle.group_lawful.proofs.Given.{cert_place}
 
 
@@ -100,6 +104,66 @@ filter_in test c (x ∷ xs) h q = go (test x) refl h (λ k. filter_in test c xs 
     go true e (inr z) f = inr (f z)
     go false e (inl z) f = absurd (false≢true (sym e ∙ ap test z ∙ q))
     go false e (inr z) f = f z
+
+-- ---- one that has a primary has a single one
+
+Single : View → Type 0
+Single v = (m : Inc) → v.primary ≡ Some m → is_single v.mode ≡ true
+
+settled_single : (n : ℕ) (v : View) → Single v → Single (settled n v)
+unfolding Single
+settled_single n v h m e = go (is_single v.mode) (not (has_primary v v.primary)) refl (elect (joiners (online_seats v))) e
+  where
+    if_elected : Option Joiner → Bool → View
+    if_elected o b = elim b [ true ↦ with_primary n o v | false ↦ v ]
+
+    mode : (o : Option Joiner) → (with_primary n o v).mode ≡ v.mode
+    mode None = refl
+    mode (Some j) = refl
+
+    go : (b c : Bool) → is_single v.mode ≡ b → (o : Option Joiner) → (if_elected o (b && c)).primary ≡ Some m → is_single (if_elected o (b && c)).mode ≡ true
+    go true true q o z = ap is_single (mode o) ∙ q
+    go true false q o z = q
+    go false c q o z = absurd (false≢true (sym q ∙ h m z))
+
+after_single : (n : ℕ) (o : Inc) (b : law.Body) (v : View) → Single v → Single (primary.view_after n o b v)
+unfolding Single
+after_single n o (law.Joins j) v h = settled_single n (changed_view n o (Add j) None v) h
+after_single n o (law.Leaves j) v h = settled_single n (changed_view n o (Remove j) None v) h
+after_single n o (law.Online x) v h = settled_single n (changed_view n o (Says []) (Some (Arrives x)) v) h
+after_single n o (law.Write x) v h = settled_single n v h
+after_single n o (law.Executed x) v h = settled_single n v h
+after_single n o (law.Prepared x) v h = settled_single n v h
+after_single n o law.Plain v h = settled_single n v h
+after_single n o (law.Switches ToMulti) v h = go (not (is_single v.mode))
+  where
+    go : (b : Bool) → Single (next_view n o (Says []) (Some (Switches ToMulti)) (void_if b) v)
+    go true = settled_single n v h
+    go false = settled_single n (record v { mode = Multi; primary = None; elected = 0 }) (λ m e. absurd (some_none (sym e)))
+after_single n o (law.Switches (ToSingle i)) v h = go (is_single v.mode)
+  where
+    named : (i : Option Inc) → (with_named n i (record v { mode = IsSingle; primary = None })).mode ≡ IsSingle
+    named None = refl
+    named (Some i) = by (is_online v i)
+      where
+        by : (b : Bool) → (if b then record v { mode = IsSingle; primary = Some i; elected = n } else record v { mode = IsSingle; primary = None }).mode ≡ IsSingle
+        by true = refl
+        by false = refl
+
+    go : (b : Bool) → Single (next_view n o (Says []) (Some (Switches (ToSingle i))) (void_if b) v)
+    go true = settled_single n v h
+    go false = settled_single n (with_named n i (record v { mode = IsSingle; primary = None })) (λ m e. ap is_single (named i))
+after_single n o (law.Appoints i) v h = go (is_single v.mode) (is_online v i && not (is_inc v.primary i)) refl
+  where
+    go : (b c : Bool) → is_single v.mode ≡ b → Single (next_view n o (Says []) (Some (Appoints i)) (void_if (not (b && c))) v)
+    go true true e = settled_single n (record v { primary = Some i; elected = n }) (λ m z. e)
+    go true false e = settled_single n v h
+    go false c e = settled_single n v h
+
+pub primary_single : (t : Setup) (p : List law.Value) (m : Inc) → (primary.view t p).primary ≡ Some m → is_single (primary.view t p).mode ≡ true
+unfolding Single
+primary_single t [] m e = settled_single 0 (record { number = 1; mode = t.mode; primary = None; elected = 0; seats = map {A = Joiner} (λ j. record { joiner = j; state = Online }) t.founders }) (λ k z. absurd (some_none (sym z))) m e
+primary_single t (v ∷ p) m e = after_single (suc (length p)) v.origin v.body (primary.view t p) (primary_single t p) m e
 
 -- ---- the call
 
@@ -375,3 +439,171 @@ module _ (t : Setup) (i : Inc) (base : List law.Placed) where
             all = λ d z le. let a = r.place in all_below_now l l (past_here l) m (sound_listed l m.0.1 d z) n q d z (omega (arith, a, le));
           }
 
+
+  -- ---- the election, and the own Online entry
+
+  primary_held : (p l : Life) → left.IsPast p l → MomentOf l → 1 < length p → is_settled i p ≡ true → (v : Level) → is_clear_at (standing l) (elected_then t i v p) ≡ true → lives.online t i (life_of base p) ≡ true → is_eventual v ≡ false
+      → (primary.view t (lives.taken (life_of base p))).primary ≡ Some i → (d : law.Cert) → Mem d (certified_of t base p) → d.place < (primary.view t (lives.taken (life_of base p))).elected → lives.executed (life_of base l) d.gtid ≡ true
+  primary_held p l h m b z v c u e q d n le =
+      let o = online_up p ((lived_past t i p l h m.0.0, sound_past t i base p l h m.0.1), sets_past p l h m.1) b z u in
+      let same : primary.view t (lives.taken (life_of base p)) ≡ view t p = views_agree t base p o.1.taking in
+      let single : is_single (view t p).mode ≡ true = ap (λ (w : View). is_single w.mode) (sym same) ∙ primary_single t (lives.taken (life_of base p)) i q in
+      let named : is_inc (view t p).primary i ≡ true = ap (λ y. is_inc y i) (ap (λ (w : View). w.primary) (sym same) ∙ q) ∙ inc_same i in
+      let elected : elected_then t i v p ≡ Some (view t p).elected =
+      ap (λ y. elim y [ true ↦ elected_in (view t p) i | false ↦ None ]) (and_from (is_up (state p)) (not (is_eventual v)) o.0 (ap not e))
+      ∙ ap (λ y. elim y [ true ↦ Some (view t p).elected | false ↦ None ]) (and_from (is_single (view t p).mode) (is_inc (view t p).primary i) single named) in
+      let clear : is_clear (standing l) (view t p).elected ≡ true = ap (is_clear_at (standing l)) (sym elected) ∙ c in
+      all_below_now p l h m o.1 (view t p).elected clear d n (subst (λ (w : View). d.place < w.elected) same le)
+
+  -- a founder has no place before its Online entry
+  founder_before : (p : Life) → is_founder t i ≡ true → seen.active t (lives.taken (life_of base p)) i ≡ true → seen.before_online t (lives.taken (life_of base p)) i ≡ 0
+  founder_before p f a = same_before t [] (lives.taken (life_of base p)) i (IsPast-nil (lives.taken (life_of base p))) (ap (λ b. seen.is_active (cond b seen.Active seen.Absent)) f) a
+
+  -- a joiner has its own Online entry at a place behind those
+  pub record OwnOnline (l : Life) : Type 0 where
+    pub place : ℕ
+    pub there : online_place l i ≡ Some place
+    pub behind : seen.before_online t (lives.taken (life_of base l)) i < place
+
+  more_online : (d : Did) (l : Life) → lives.marked (life_of base (d ∷ l)) ≡ lives.marked (life_of base l) → online_place (d ∷ l) i ≡ online_place l i → OwnOnline l → OwnOnline (d ∷ l)
+  more_online d l e f o = record { place = o.place; there = f ∙ o.there; behind = subst (λ x. seen.before_online t (law.values x) i < o.place) (sym e) o.behind }
+
+  -- only its own Online entry makes it ONLINE
+  rises : (e : Entry) (l : Life) → LivedDid t i (Took e) l → Shape t i l → StandsSo t i base l → seen.active t (lives.taken (life_of base l)) i ≡ false → seen.active t (lives.taken (life_of base (Took e ∷ l))) i ≡ true → is_arrival_of i e ≡ true
+  rises e l h s k a b = elim (cases_Bool (is_arrival_of i e)) [
+    | inl q ↦ q
+    | inr q ↦ elim (cases_Bool (is_exit i e.value.what e.effect)) [
+      | inr z ↦ (let same = entry_stays t i base e.value.id.origin e.value.what e.effect e.holds (stand t i base l) (in_before t i base e l h s k) q z in absurd (false≢true (sym a ∙ sym (ap seen.is_active same) ∙ b)))
+      | inl z ↦ absurd (leaves e.value.what e.effect e.holds z b)
+    ]
+  ]
+    where
+      left_inactive : (x : seen.Standing) → seen.is_active (seen.on_leave x) ≡ true → ⊥
+      left_inactive seen.Absent q = absurd (false≢true q)
+      left_inactive seen.Recovering q = absurd (false≢true q)
+      left_inactive seen.Active q = absurd (false≢true q)
+      left_inactive seen.Gone q = absurd (false≢true q)
+
+      leaves : (w : What) (f : Effect) (y : Option Body) → is_exit i w f ≡ true → seen.is_active (seen.stands_after i e.value.id.origin (does_entry w f y) (stand t i base l)) ≡ true → ⊥
+      leaves (Remove j) Plain y z q = left_inactive (stand t i base l) (subst (λ c. seen.is_active (cond c (seen.on_leave (stand t i base l)) (stand t i base l)) ≡ true) z q)
+      leaves (Remove j) Void y z q = absurd (false≢true z)
+      leaves (Remove j) Unread y z q = absurd (false≢true z)
+      leaves (Remove j) (Positive g) y z q = absurd (false≢true z)
+      leaves (Remove j) (Conflict g) y z q = absurd (false≢true z)
+      leaves Noop f y z q = absurd (false≢true z)
+      leaves (Add j) f y z q = absurd (false≢true z)
+      leaves (Says x) f y z q = absurd (false≢true z)
+
+  pub own_online : (l : Life) → Lived t i l → AlwaysSound t i base l → IsReady t i l → is_founder t i ≡ false → seen.active t (lives.taken (life_of base l)) i ≡ true → OwnOnline l
+  own_online [] k o r f a = absurd (false≢true (sym (ap (λ b. seen.is_active (cond b seen.Active seen.Absent)) f) ∙ a))
+  own_online (Took e ∷ l) k o r f a = go (cases_Bool (seen.active t (lives.taken (life_of base l)) i)) (own_online l k.1 o.1 r f)
+    where
+      s : Sound t i base (Took e ∷ l)
+      s = sound_took t i base e l k o
+
+      long : length (lives.taken (life_of base l)) ≡ taken l
+      long = values_long (lives.marked (life_of base l)) ∙ places_agree t base l s.taking.1
+
+      here : is_arrival_of i e ≡ true → online_place (Took e ∷ l) i ≡ Some e.place
+      here q = ap (λ b. elim b [ true ↦ Some e.place | false ↦ online_place l i ]) q
+
+      before : seen.before_online t (lives.taken (life_of base l)) i ≤ length (lives.taken (life_of base l))
+      before = before_online_le t (lives.taken (life_of base l)) i
+
+      now : seen.before_online t (lives.taken (life_of base (Took e ∷ l))) i ≡ seen.before_online t (lives.taken (life_of base l)) i
+      now = ap (λ b. cond b (seen.before_online t (lives.taken (life_of base l)) i) (suc (length (lives.taken (life_of base l))))) a
+
+      at_end : is_arrival_of i e ≡ true → OwnOnline (Took e ∷ l)
+      at_end q = record { place = e.place; there = here q; behind = (let p = s.taking.0.0 in omega (arith, before, now, long, p)) }
+
+      still : OwnOnline l → (b : Bool) → is_arrival_of i e ≡ b → OwnOnline (Took e ∷ l)
+      still n true q = at_end q
+      still n false q = record { place = n.place; there = ap (λ b. elim b [ true ↦ Some e.place | false ↦ online_place l i ]) q ∙ n.there; behind = (let b = n.behind in omega (arith, b, now)) }
+
+      go : (seen.active t (lives.taken (life_of base l)) i ≡ true) ⊎ (seen.active t (lives.taken (life_of base l)) i ≡ false) → (seen.active t (lives.taken (life_of base l)) i ≡ true → OwnOnline l) → OwnOnline (Took e ∷ l)
+      go (inl q) g = still (g q) (is_arrival_of i e) refl
+      go (inr q) g = at_end (rises e l k.0 (shape_of t i base l o.1 k.0.goes_on.begun) (stands_so t i base l k.1 o.1).0 q a)
+  own_online (Restores y cs ∷ l) k o r f a =
+      let z = given_stands t i base l y cs (o.0.0.1 r (omega arith)) f in
+      absurd (false≢true (sym (ap seen.is_active z) ∙ a))
+  own_online (Made v y ∷ l) k o r f a = more_online (Made v y) l (skip_made v y l (life_of base l)) refl (own_online l k.1 o.1 r f (ap (λ x. seen.active t (law.values x) i) (sym (skip_made v y l (life_of base l))) ∙ a))
+  own_online (Answered u y ∷ l) k o r f a = more_online (Answered u y) l (skip_answer base u y l (life_of base l)) refl (own_online l k.1 o.1 r f (ap (λ x. seen.active t (law.values x) i) (sym (skip_answer base u y l (life_of base l))) ∙ a))
+  own_online (Is y z ∷ l) k o r f a = more_online (Is y z) l (skip_state base y z l (life_of base l)) refl (own_online l k.1 o.1 r f (ap (λ x. seen.active t (law.values x) i) (sym (skip_state base y z l (life_of base l))) ∙ a))
+  own_online (Came (Hears m) ∷ l) k o r f a = more_online (Came (Hears m)) l refl refl (own_online l k.1 o.1 r f a)
+  own_online (Came Ticks ∷ l) k o r f a = more_online (Came Ticks) l refl refl (own_online l k.1 o.1 r f a)
+  own_online (Came (Works z y) ∷ l) k o r f a = more_online (Came (Works z y)) l refl refl (own_online l k.1 o.1 r f a)
+  own_online (Came (Calls z y) ∷ l) k o r f a = more_online (Came (Calls z y)) l refl refl (own_online l k.1 o.1 r f a)
+  own_online (Came (Operates z) ∷ l) k o r f a = more_online (Came (Operates z)) l refl refl (own_online l k.1 o.1 r f a)
+  own_online (Skips u v ∷ l) k o r f a = more_online (Skips u v) l refl refl (own_online l k.1 o.1 r f a)
+  own_online (Gave m j ∷ l) k o r f a = more_online (Gave m j) l refl refl (own_online l k.1 o.1 r f a)
+  own_online (Replied q ∷ l) k o r f a = more_online (Replied q) l refl refl (own_online l k.1 o.1 r f a)
+  own_online (AskFails ∷ l) k o r f a = more_online AskFails l refl refl (own_online l k.1 o.1 r f a)
+  own_online (Founds ∷ l) k o r f a = more_online Founds l refl refl (own_online l k.1 o.1 r f a)
+  own_online (Enters z ∷ l) k o r f a = more_online (Enters z) l refl refl (own_online l k.1 o.1 r f a)
+  own_online (Starts x ∷ l) k o r f a = more_online (Starts x) l refl refl (own_online l k.1 o.1 r f a)
+  own_online (Committed y ∷ l) k o r f a = more_online (Committed y) l refl refl (own_online l k.1 o.1 r f a)
+  own_online (Done q ∷ l) k o r f a = more_online (Done q) l refl refl (own_online l k.1 o.1 r f a)
+  own_online (Begun u y z ∷ l) k o r f a = more_online (Begun u y z) l refl refl (own_online l k.1 o.1 r f a)
+  own_online (Changed u z ∷ l) k o r f a = more_online (Changed u z) l refl refl (own_online l k.1 o.1 r f a)
+  own_online (Called u v w ∷ l) k o r f a = more_online (Called u v w) l refl refl (own_online l k.1 o.1 r f a)
+  own_online (AsksCommit u y ∷ l) k o r f a = more_online (AsksCommit u y) l refl refl (own_online l k.1 o.1 r f a)
+  own_online (Ends u ∷ l) k o r f a = more_online (Ends u) l refl refl (own_online l k.1 o.1 r f a)
+
+  joined_held : (p l : Life) → left.IsPast p l → MomentOf l → 1 < length p → is_settled i p ≡ true → is_clear_at (standing l) (online_then i p) ≡ true → lives.online t i (life_of base p) ≡ true → HasAll t (lives.marked (life_of base p)) (seen.before_online t (lives.taken (life_of base p)) i) (life_of base l)
+  joined_held p l h m b z c u d n le = elim (cases_Bool (is_founder t i)) [
+    | inl f ↦ (let e = founder_before p f active in let y = cert_place t (lives.marked (life_of base p)) d n in absurd (omega (arith, e, y, le)))
+    | inr f ↦ (let w = own_online p mp.0.0 mp.0.1 ready f active in
+        let clear : is_clear (standing l) w.place ≡ true = ap (is_clear_at (standing l)) (sym (ap (λ y. elim y [ true ↦ online_place p i | false ↦ None ]) o.0 ∙ w.there)) ∙ c in
+        let y = w.behind in
+        all_below_now p l h m o.1 w.place clear d n (omega (arith, le, y)))
+  ]
+    where
+      mp : MomentOf p
+      mp = ((lived_past t i p l h m.0.0, sound_past t i base p l h m.0.1), sets_past p l h m.1)
+
+      o : (is_up (state p) ≡ true) × Sound t i base p
+      o = online_up p mp b z u
+
+      active : seen.active t (lives.taken (life_of base p)) i ≡ true
+      active = (and_parts (not (list_any lives.is_fall (life_of base p))) (seen.active t (lives.taken (life_of base p)) i) u).1
+
+      ready : IsReady t i p
+      ready = elim (ready_or t i base p (shape_of t i base p mp.0.1 b)) [
+        | inl r ↦ r
+        | inr e ↦ absurd (subst (λ x. Mem d (law.certified t x)) (unready t i base p e.0 e.1).1 n)
+      ]
+
+  -- ---- all of it
+
+  pub lawful_begun : (l : Life) (s : ℕ) (read : Gtids) (place : Option ℕ) → IsBegun t i l s read place → Lived t i l → AlwaysSound t i base l → HasSets l → (c : lives.Call) × (lives.last_call (life_of base l) s ≡ Some c) × Holds t (life_of base l) i c
+  lawful_begun l s read place x k o sets = (
+    law_call t i base x.call,
+    call_as t i base l s ∙ ap (calls t i base) x.is_call,
+    record {
+      after = λ f d a p. after_held past l at_past m at.begun at.settled parts.0.0 f d a p;
+      before = λ y. synced l m (x.call).level past y parts.0.1;
+      primary = λ u e q d n le. primary_held past l at_past m at.begun at.settled (x.call).level parts.1.0 u e q d n le;
+      joined = λ u. joined_held past l at_past m at.begun at.settled parts.1.1 u;
+    },
+  )
+    where
+      past : Life
+      past = (x.call).past
+
+      m : MomentOf l
+      m = ((k, o), sets)
+
+      called : (w : ℕ) × left.IsPast (Called s (x.call).level w ∷ (x.call).past) l
+      called = call_past l s x.call x.is_call
+
+      at_past : left.IsPast (x.call).past l
+      at_past = past_tail (Called s (x.call).level called.0) (x.call).past l called.1
+
+      at : AtCall (x.call).past
+      at = at_call (x.call).past s (x.call).level called.0 (lived_past t i (Called s (x.call).level called.0 ∷ (x.call).past) l called.1 k).0
+
+      parts : ((list_all (λ g. not (is_waiting (standing l) g)) (after_then i (x.call).past) ≡ true) × (is_synced (standing l) (sync_then i (x.call).level (x.call).past) (sync_place i (sync_then i (x.call).level (x.call).past) l) ≡ true))
+          × ((is_clear_at (standing l) (elected_then t i (x.call).level (x.call).past) ≡ true) × (is_clear_at (standing l) (online_then i (x.call).past) ≡ true))
+      parts =
+          let y = and_parts (list_all (λ g. not (is_waiting (standing l) g)) (after_then i (x.call).past) && is_synced (standing l) (sync_then i (x.call).level (x.call).past) (sync_place i (sync_then i (x.call).level (x.call).past) l)) (is_clear_at (standing l) (elected_then t i (x.call).level (x.call).past) && is_clear_at (standing l) (online_then i (x.call).past)) x.released in
+          (and_parts _ _ y.0, and_parts _ _ y.1)
