@@ -11,3 +11,4 @@ pub mod Commits
 pub mod Given
 pub mod Lawfuls
 pub mod Begins
+pub mod Asked

@@ -152,7 +152,7 @@ module _ (t : Setup) (i : Inc) (base : List law.Placed) where
   killed_active (Is x c ∷ l) s g h k = killed_active l s g h.1 k
 
   -- ERROR stays
-  error_stays : (x : MemberState) (c : Cause) (l : Life) → Lived t i (Is x c ∷ l) → (x ≡ Error → ⊥) → is_error x ≡ is_error (state l)
+  pub error_stays : (x : MemberState) (c : Cause) (l : Life) → Lived t i (Is x c ∷ l) → (x ≡ Error → ⊥) → is_error x ≡ is_error (state l)
   error_stays x c l h n = sym (fallen_is t i base (Is x c ∷ l) h) ∙ same x n ∙ fallen_is t i base l h.1
     where
       same : (x : MemberState) → (x ≡ Error → ⊥) → has_fallen base (Is x c ∷ l) ≡ has_fallen base l
@@ -261,6 +261,7 @@ module _ (t : Setup) (i : Inc) (base : List law.Placed) where
     pub begun : lives.last_begun (life_of base l) s ≡ Some (life_of base past)
     pub was : last_call past s ≡ Some call
     pub now : calls (last_call l s) ≡ Some (law_call call)
+    pub then : state_then (last_call l s) ≡ state call.past
 
   abbrev pub is_going : Phase → Bool
   is_going p = is_active p || is_asking p
@@ -271,57 +272,57 @@ module _ (t : Setup) (i : Inc) (base : List law.Placed) where
     where
       go : (d : Bool) → (u == s) ≡ d → is_going (elim d [ true ↦ Holding | false ↦ phase l s ]) ≡ true → (is_going (phase l s) ≡ true → BegunAs l s) → BegunAs (Called u v x ∷ l) s
       go true e p f = absurd (false≢true p)
-      go false e p f = let k = f p in record { past = k.past; call = k.call; begun = rw e k.begun; was = k.was; now = ap (λ y. calls (elim y [ true ↦ Some (record { level = v; limit = x; past = l; ticks = 0 }) | false ↦ last_call l s ])) e ∙ k.now }
+      go false e p f = let k = f p in record { past = k.past; call = k.call; begun = rw e k.begun; was = k.was; now = ap (λ y. calls (elim y [ true ↦ Some (record { level = v; limit = x; past = l; ticks = 0 }) | false ↦ last_call l s ])) e ∙ k.now; then = ap (λ y. state_then (elim y [ true ↦ Some (record { level = v; limit = x; past = l; ticks = 0 }) | false ↦ last_call l s ])) e ∙ k.then }
   begun_as (Ends u ∷ l) s h b = go (u == s) refl b (begun_as l s h.1)
     where
       go : (d : Bool) → (u == s) ≡ d → is_going (elim d [ true ↦ Free | false ↦ phase l s ]) ≡ true → (is_going (phase l s) ≡ true → BegunAs l s) → BegunAs (Ends u ∷ l) s
       go true e p f = absurd (false≢true p)
-      go false e p f = let k = f p in record { past = k.past; call = k.call; begun = k.begun; was = k.was; now = k.now }
+      go false e p f = let k = f p in record { past = k.past; call = k.call; begun = k.begun; was = k.was; now = k.now; then = k.then }
   begun_as (Begun u a c ∷ l) s h b = go (u == s) refl b (begun_as l s h.1)
     where
       go : (d : Bool) → (u == s) ≡ d → is_going (elim d [ true ↦ Active | false ↦ phase l s ]) ≡ true → (is_going (phase l s) ≡ true → BegunAs l s) → BegunAs (Begun u a c ∷ l) s
       go true e p f =
           let z = h.0.allowed in
           let q : last_call l s ≡ Some z.call = ap (last_call l) (sym (eqb-true u s e)) ∙ z.is_call in
-          record { past = l; call = z.call; begun = rw e refl; was = q; now = ap calls q }
-      go false e p f = let k = f p in record { past = k.past; call = k.call; begun = rw e k.begun; was = k.was; now = k.now }
+          record { past = l; call = z.call; begun = rw e refl; was = q; now = ap calls q; then = ap state_then q }
+      go false e p f = let k = f p in record { past = k.past; call = k.call; begun = rw e k.begun; was = k.was; now = k.now; then = k.then }
   begun_as (AsksCommit u y ∷ l) s h b = go (u == s) refl b (begun_as l s h.1)
     where
       still : BegunAs l s → BegunAs (AsksCommit u y ∷ l) s
-      still k = record { past = k.past; call = k.call; begun = k.begun; was = k.was; now = k.now }
+      still k = record { past = k.past; call = k.call; begun = k.begun; was = k.was; now = k.now; then = k.then }
 
       go : (d : Bool) → (u == s) ≡ d → is_going (elim d [ true ↦ Asking y | false ↦ phase l s ]) ≡ true → (is_going (phase l s) ≡ true → BegunAs l s) → BegunAs (AsksCommit u y ∷ l) s
       go true e p f = still (f (ap is_going (ap (phase l) (sym (eqb-true u s e)) ∙ h.0.allowed.active)))
       go false e p f = still (f p)
-  begun_as (Came Ticks ∷ l) s h b = let k = begun_as l s h.1 b in record { past = k.past; call = k.call; begun = k.begun; was = k.was; now = ticked (last_call l s) ∙ k.now }
-  begun_as (Made v y ∷ l) s h b = let k = begun_as l s h.1 b in record { past = k.past; call = k.call; begun = made y ∙ k.begun; was = k.was; now = k.now }
+  begun_as (Came Ticks ∷ l) s h b = let k = begun_as l s h.1 b in record { past = k.past; call = k.call; begun = k.begun; was = k.was; now = ticked (last_call l s) ∙ k.now; then = then_ticked (last_call l s) ∙ k.then }
+  begun_as (Made v y ∷ l) s h b = let k = begun_as l s h.1 b in record { past = k.past; call = k.call; begun = made y ∙ k.begun; was = k.was; now = k.now; then = k.then }
     where
       made : (y : Option Body) → lives.last_begun (life_of base (Made v y ∷ l)) s ≡ lives.last_begun (life_of base l) s
       made (Some (Writes x)) = refl
       made y = refl
-  begun_as (Answered u a ∷ l) s h b = let k = begun_as l s h.1 b in record { past = k.past; call = k.call; begun = answered a ∙ k.begun; was = k.was; now = k.now }
+  begun_as (Answered u a ∷ l) s h b = let k = begun_as l s h.1 b in record { past = k.past; call = k.call; begun = answered a ∙ k.begun; was = k.was; now = k.now; then = k.then }
     where
       answered : (a : Answer) → lives.last_begun (life_of base (Answered u a ∷ l)) s ≡ lives.last_begun (life_of base l) s
       answered (CommittedAs g) = refl
       answered a = refl
-  begun_as (Is x c ∷ l) s h b = let k = begun_as l s h.1 b in record { past = k.past; call = k.call; begun = is x ∙ k.begun; was = k.was; now = k.now }
+  begun_as (Is x c ∷ l) s h b = let k = begun_as l s h.1 b in record { past = k.past; call = k.call; begun = is x ∙ k.begun; was = k.was; now = k.now; then = k.then }
     where
       is : (x : MemberState) → lives.last_begun (life_of base (Is x c ∷ l)) s ≡ lives.last_begun (life_of base l) s
       is Error = refl
       is x = refl
-  begun_as (Came (Hears m) ∷ l) s h b = let k = begun_as l s h.1 b in record { past = k.past; call = k.call; begun = k.begun; was = k.was; now = k.now }
-  begun_as (Came (Works a y) ∷ l) s h b = let k = begun_as l s h.1 b in record { past = k.past; call = k.call; begun = k.begun; was = k.was; now = k.now }
-  begun_as (Came (Calls a y) ∷ l) s h b = let k = begun_as l s h.1 b in record { past = k.past; call = k.call; begun = k.begun; was = k.was; now = k.now }
-  begun_as (Came (Operates a) ∷ l) s h b = let k = begun_as l s h.1 b in record { past = k.past; call = k.call; begun = k.begun; was = k.was; now = k.now }
-  begun_as (Skips u v ∷ l) s h b = let k = begun_as l s h.1 b in record { past = k.past; call = k.call; begun = k.begun; was = k.was; now = k.now }
-  begun_as (Done n ∷ l) s h b = let k = begun_as l s h.1 b in record { past = k.past; call = k.call; begun = k.begun; was = k.was; now = k.now }
-  begun_as (Committed y ∷ l) s h b = let k = begun_as l s h.1 b in record { past = k.past; call = k.call; begun = k.begun; was = k.was; now = k.now }
-  begun_as (Gave n m ∷ l) s h b = let k = begun_as l s h.1 b in record { past = k.past; call = k.call; begun = k.begun; was = k.was; now = k.now }
-  begun_as (Changed u c ∷ l) s h b = let k = begun_as l s h.1 b in record { past = k.past; call = k.call; begun = k.begun; was = k.was; now = k.now }
-  begun_as (Replied r ∷ l) s h b = let k = begun_as l s h.1 b in record { past = k.past; call = k.call; begun = k.begun; was = k.was; now = k.now }
-  begun_as (AskFails ∷ l) s h b = let k = begun_as l s h.1 b in record { past = k.past; call = k.call; begun = k.begun; was = k.was; now = k.now }
-  begun_as (Founds ∷ l) s h b = let k = begun_as l s h.1 b in record { past = k.past; call = k.call; begun = k.begun; was = k.was; now = k.now }
-  begun_as (Starts x ∷ l) s h b = let k = begun_as l s h.1 b in record { past = k.past; call = k.call; begun = k.begun; was = k.was; now = k.now }
-  begun_as (Took e ∷ l) s h b = let k = begun_as l s h.1 b in record { past = k.past; call = k.call; begun = k.begun; was = k.was; now = k.now }
-  begun_as (Enters w ∷ l) s h b = let k = begun_as l s h.1 b in record { past = k.past; call = k.call; begun = k.begun; was = k.was; now = k.now }
-  begun_as (Restores y cs ∷ l) s h b = let k = begun_as l s h.1 b in record { past = k.past; call = k.call; begun = k.begun; was = k.was; now = k.now }
+  begun_as (Came (Hears m) ∷ l) s h b = let k = begun_as l s h.1 b in record { past = k.past; call = k.call; begun = k.begun; was = k.was; now = k.now; then = k.then }
+  begun_as (Came (Works a y) ∷ l) s h b = let k = begun_as l s h.1 b in record { past = k.past; call = k.call; begun = k.begun; was = k.was; now = k.now; then = k.then }
+  begun_as (Came (Calls a y) ∷ l) s h b = let k = begun_as l s h.1 b in record { past = k.past; call = k.call; begun = k.begun; was = k.was; now = k.now; then = k.then }
+  begun_as (Came (Operates a) ∷ l) s h b = let k = begun_as l s h.1 b in record { past = k.past; call = k.call; begun = k.begun; was = k.was; now = k.now; then = k.then }
+  begun_as (Skips u v ∷ l) s h b = let k = begun_as l s h.1 b in record { past = k.past; call = k.call; begun = k.begun; was = k.was; now = k.now; then = k.then }
+  begun_as (Done n ∷ l) s h b = let k = begun_as l s h.1 b in record { past = k.past; call = k.call; begun = k.begun; was = k.was; now = k.now; then = k.then }
+  begun_as (Committed y ∷ l) s h b = let k = begun_as l s h.1 b in record { past = k.past; call = k.call; begun = k.begun; was = k.was; now = k.now; then = k.then }
+  begun_as (Gave n m ∷ l) s h b = let k = begun_as l s h.1 b in record { past = k.past; call = k.call; begun = k.begun; was = k.was; now = k.now; then = k.then }
+  begun_as (Changed u c ∷ l) s h b = let k = begun_as l s h.1 b in record { past = k.past; call = k.call; begun = k.begun; was = k.was; now = k.now; then = k.then }
+  begun_as (Replied r ∷ l) s h b = let k = begun_as l s h.1 b in record { past = k.past; call = k.call; begun = k.begun; was = k.was; now = k.now; then = k.then }
+  begun_as (AskFails ∷ l) s h b = let k = begun_as l s h.1 b in record { past = k.past; call = k.call; begun = k.begun; was = k.was; now = k.now; then = k.then }
+  begun_as (Founds ∷ l) s h b = let k = begun_as l s h.1 b in record { past = k.past; call = k.call; begun = k.begun; was = k.was; now = k.now; then = k.then }
+  begun_as (Starts x ∷ l) s h b = let k = begun_as l s h.1 b in record { past = k.past; call = k.call; begun = k.begun; was = k.was; now = k.now; then = k.then }
+  begun_as (Took e ∷ l) s h b = let k = begun_as l s h.1 b in record { past = k.past; call = k.call; begun = k.begun; was = k.was; now = k.now; then = k.then }
+  begun_as (Enters w ∷ l) s h b = let k = begun_as l s h.1 b in record { past = k.past; call = k.call; begun = k.begun; was = k.was; now = k.now; then = k.then }
+  begun_as (Restores y cs ∷ l) s h b = let k = begun_as l s h.1 b in record { past = k.past; call = k.call; begun = k.begun; was = k.was; now = k.now; then = k.then }
