@@ -249,7 +249,7 @@ module _ (t : Setup) (i : Inc) (base : List law.Placed) where
 
   -- ---- a key without a holder
 
-  free_of : (l : Life) (x : Item) (s : ℕ) (ts : List ℕ) (u : ℕ) → session_holder l x s ts ≡ None → In u ts → (u == s) ≡ false → holds_key l x u ≡ false
+  pub free_of : (l : Life) (x : Item) (s : ℕ) (ts : List ℕ) (u : ℕ) → session_holder l x s ts ≡ None → In u ts → (u == s) ≡ false → holds_key l x u ≡ false
   free_of l x s [] u h m n = absurd m
   free_of l x s (y ∷ ts) u h m n = go (not (y == s) && holds_key l x y) refl h m (λ k z. free_of l x s ts u k z n)
     where

@@ -143,7 +143,7 @@ module _ (t : Setup) (i : Inc) (base : List law.Placed) where
 
   -- ---- pending
 
-  filter_in : (test : Cert → Bool) (c : Cert) (xs : List Cert) → In c xs → test c ≡ true → In c (filter test xs)
+  pub filter_in : (test : Cert → Bool) (c : Cert) (xs : List Cert) → In c xs → test c ≡ true → In c (filter test xs)
   filter_in test c [] h q = absurd h
   filter_in test c (x ∷ xs) h q = go (test x) refl h (λ k. filter_in test c xs k q)
     where

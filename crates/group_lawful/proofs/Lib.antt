@@ -12,3 +12,4 @@ pub mod Given
 pub mod Lawfuls
 pub mod Begins
 pub mod Asked
+pub mod Changes

@@ -20,12 +20,17 @@ use Rattle.group_rules.specs.Queue.{at_place}
 use Rattle.group_rules.specs.Sessions.{Phase, Free, Holding, Active, Asking, is_begun, is_active, is_asking, phase, Call, one_tick, last_call}
 use Rattle.group_rules.specs.Keys.{killed, hit_by, keeps_key, was_left}
 use Rattle.group_rules.specs.Calls.{state_then}
+use Rattle.group_bridge.specs.Left as left
 use Rattle.group_bridge.specs.Left.{IsOpen, IsBegun}
 use Rattle.group_laws.specs.Entries as law
 use Rattle.group_laws.specs.Life as lives
 use Rattle.group_lives.specs.Lives.{sync_number, asking, did_of, life_of}
 use Rattle.group_lawful.specs.Lived.{LivedDid, Lived}
 use Rattle.group_lawful.proofs.States.{has_fallen, fallen_is}
+
+past_itself : (l : Life) → left.IsPast l l
+past_itself [] = refl
+past_itself (d ∷ l) = inl refl
 
 some_none : {A : Type 0} {x : A} → Some x ≡ None → ⊥
 some_none e = absurd (cc e)
@@ -262,6 +267,7 @@ module _ (t : Setup) (i : Inc) (base : List law.Placed) where
     pub was : last_call past s ≡ Some call
     pub now : calls (last_call l s) ≡ Some (law_call call)
     pub then : state_then (last_call l s) ≡ state call.past
+    pub earlier : left.IsPast past l
 
   abbrev pub is_going : Phase → Bool
   is_going p = is_active p || is_asking p
@@ -272,57 +278,57 @@ module _ (t : Setup) (i : Inc) (base : List law.Placed) where
     where
       go : (d : Bool) → (u == s) ≡ d → is_going (elim d [ true ↦ Holding | false ↦ phase l s ]) ≡ true → (is_going (phase l s) ≡ true → BegunAs l s) → BegunAs (Called u v x ∷ l) s
       go true e p f = absurd (false≢true p)
-      go false e p f = let k = f p in record { past = k.past; call = k.call; begun = rw e k.begun; was = k.was; now = ap (λ y. calls (elim y [ true ↦ Some (record { level = v; limit = x; past = l; ticks = 0 }) | false ↦ last_call l s ])) e ∙ k.now; then = ap (λ y. state_then (elim y [ true ↦ Some (record { level = v; limit = x; past = l; ticks = 0 }) | false ↦ last_call l s ])) e ∙ k.then }
+      go false e p f = let k = f p in record { past = k.past; call = k.call; begun = rw e k.begun; was = k.was; now = ap (λ y. calls (elim y [ true ↦ Some (record { level = v; limit = x; past = l; ticks = 0 }) | false ↦ last_call l s ])) e ∙ k.now; then = ap (λ y. state_then (elim y [ true ↦ Some (record { level = v; limit = x; past = l; ticks = 0 }) | false ↦ last_call l s ])) e ∙ k.then; earlier = inr k.earlier }
   begun_as (Ends u ∷ l) s h b = go (u == s) refl b (begun_as l s h.1)
     where
       go : (d : Bool) → (u == s) ≡ d → is_going (elim d [ true ↦ Free | false ↦ phase l s ]) ≡ true → (is_going (phase l s) ≡ true → BegunAs l s) → BegunAs (Ends u ∷ l) s
       go true e p f = absurd (false≢true p)
-      go false e p f = let k = f p in record { past = k.past; call = k.call; begun = k.begun; was = k.was; now = k.now; then = k.then }
+      go false e p f = let k = f p in record { past = k.past; call = k.call; begun = k.begun; was = k.was; now = k.now; then = k.then; earlier = inr k.earlier }
   begun_as (Begun u a c ∷ l) s h b = go (u == s) refl b (begun_as l s h.1)
     where
       go : (d : Bool) → (u == s) ≡ d → is_going (elim d [ true ↦ Active | false ↦ phase l s ]) ≡ true → (is_going (phase l s) ≡ true → BegunAs l s) → BegunAs (Begun u a c ∷ l) s
       go true e p f =
           let z = h.0.allowed in
           let q : last_call l s ≡ Some z.call = ap (last_call l) (sym (eqb-true u s e)) ∙ z.is_call in
-          record { past = l; call = z.call; begun = rw e refl; was = q; now = ap calls q; then = ap state_then q }
-      go false e p f = let k = f p in record { past = k.past; call = k.call; begun = rw e k.begun; was = k.was; now = k.now; then = k.then }
+          record { past = l; call = z.call; begun = rw e refl; was = q; now = ap calls q; then = ap state_then q; earlier = inr (past_itself l) }
+      go false e p f = let k = f p in record { past = k.past; call = k.call; begun = rw e k.begun; was = k.was; now = k.now; then = k.then; earlier = inr k.earlier }
   begun_as (AsksCommit u y ∷ l) s h b = go (u == s) refl b (begun_as l s h.1)
     where
       still : BegunAs l s → BegunAs (AsksCommit u y ∷ l) s
-      still k = record { past = k.past; call = k.call; begun = k.begun; was = k.was; now = k.now; then = k.then }
+      still k = record { past = k.past; call = k.call; begun = k.begun; was = k.was; now = k.now; then = k.then; earlier = inr k.earlier }
 
       go : (d : Bool) → (u == s) ≡ d → is_going (elim d [ true ↦ Asking y | false ↦ phase l s ]) ≡ true → (is_going (phase l s) ≡ true → BegunAs l s) → BegunAs (AsksCommit u y ∷ l) s
       go true e p f = still (f (ap is_going (ap (phase l) (sym (eqb-true u s e)) ∙ h.0.allowed.active)))
       go false e p f = still (f p)
-  begun_as (Came Ticks ∷ l) s h b = let k = begun_as l s h.1 b in record { past = k.past; call = k.call; begun = k.begun; was = k.was; now = ticked (last_call l s) ∙ k.now; then = then_ticked (last_call l s) ∙ k.then }
-  begun_as (Made v y ∷ l) s h b = let k = begun_as l s h.1 b in record { past = k.past; call = k.call; begun = made y ∙ k.begun; was = k.was; now = k.now; then = k.then }
+  begun_as (Came Ticks ∷ l) s h b = let k = begun_as l s h.1 b in record { past = k.past; call = k.call; begun = k.begun; was = k.was; now = ticked (last_call l s) ∙ k.now; then = then_ticked (last_call l s) ∙ k.then; earlier = inr k.earlier }
+  begun_as (Made v y ∷ l) s h b = let k = begun_as l s h.1 b in record { past = k.past; call = k.call; begun = made y ∙ k.begun; was = k.was; now = k.now; then = k.then; earlier = inr k.earlier }
     where
       made : (y : Option Body) → lives.last_begun (life_of base (Made v y ∷ l)) s ≡ lives.last_begun (life_of base l) s
       made (Some (Writes x)) = refl
       made y = refl
-  begun_as (Answered u a ∷ l) s h b = let k = begun_as l s h.1 b in record { past = k.past; call = k.call; begun = answered a ∙ k.begun; was = k.was; now = k.now; then = k.then }
+  begun_as (Answered u a ∷ l) s h b = let k = begun_as l s h.1 b in record { past = k.past; call = k.call; begun = answered a ∙ k.begun; was = k.was; now = k.now; then = k.then; earlier = inr k.earlier }
     where
       answered : (a : Answer) → lives.last_begun (life_of base (Answered u a ∷ l)) s ≡ lives.last_begun (life_of base l) s
       answered (CommittedAs g) = refl
       answered a = refl
-  begun_as (Is x c ∷ l) s h b = let k = begun_as l s h.1 b in record { past = k.past; call = k.call; begun = is x ∙ k.begun; was = k.was; now = k.now; then = k.then }
+  begun_as (Is x c ∷ l) s h b = let k = begun_as l s h.1 b in record { past = k.past; call = k.call; begun = is x ∙ k.begun; was = k.was; now = k.now; then = k.then; earlier = inr k.earlier }
     where
       is : (x : MemberState) → lives.last_begun (life_of base (Is x c ∷ l)) s ≡ lives.last_begun (life_of base l) s
       is Error = refl
       is x = refl
-  begun_as (Came (Hears m) ∷ l) s h b = let k = begun_as l s h.1 b in record { past = k.past; call = k.call; begun = k.begun; was = k.was; now = k.now; then = k.then }
-  begun_as (Came (Works a y) ∷ l) s h b = let k = begun_as l s h.1 b in record { past = k.past; call = k.call; begun = k.begun; was = k.was; now = k.now; then = k.then }
-  begun_as (Came (Calls a y) ∷ l) s h b = let k = begun_as l s h.1 b in record { past = k.past; call = k.call; begun = k.begun; was = k.was; now = k.now; then = k.then }
-  begun_as (Came (Operates a) ∷ l) s h b = let k = begun_as l s h.1 b in record { past = k.past; call = k.call; begun = k.begun; was = k.was; now = k.now; then = k.then }
-  begun_as (Skips u v ∷ l) s h b = let k = begun_as l s h.1 b in record { past = k.past; call = k.call; begun = k.begun; was = k.was; now = k.now; then = k.then }
-  begun_as (Done n ∷ l) s h b = let k = begun_as l s h.1 b in record { past = k.past; call = k.call; begun = k.begun; was = k.was; now = k.now; then = k.then }
-  begun_as (Committed y ∷ l) s h b = let k = begun_as l s h.1 b in record { past = k.past; call = k.call; begun = k.begun; was = k.was; now = k.now; then = k.then }
-  begun_as (Gave n m ∷ l) s h b = let k = begun_as l s h.1 b in record { past = k.past; call = k.call; begun = k.begun; was = k.was; now = k.now; then = k.then }
-  begun_as (Changed u c ∷ l) s h b = let k = begun_as l s h.1 b in record { past = k.past; call = k.call; begun = k.begun; was = k.was; now = k.now; then = k.then }
-  begun_as (Replied r ∷ l) s h b = let k = begun_as l s h.1 b in record { past = k.past; call = k.call; begun = k.begun; was = k.was; now = k.now; then = k.then }
-  begun_as (AskFails ∷ l) s h b = let k = begun_as l s h.1 b in record { past = k.past; call = k.call; begun = k.begun; was = k.was; now = k.now; then = k.then }
-  begun_as (Founds ∷ l) s h b = let k = begun_as l s h.1 b in record { past = k.past; call = k.call; begun = k.begun; was = k.was; now = k.now; then = k.then }
-  begun_as (Starts x ∷ l) s h b = let k = begun_as l s h.1 b in record { past = k.past; call = k.call; begun = k.begun; was = k.was; now = k.now; then = k.then }
-  begun_as (Took e ∷ l) s h b = let k = begun_as l s h.1 b in record { past = k.past; call = k.call; begun = k.begun; was = k.was; now = k.now; then = k.then }
-  begun_as (Enters w ∷ l) s h b = let k = begun_as l s h.1 b in record { past = k.past; call = k.call; begun = k.begun; was = k.was; now = k.now; then = k.then }
-  begun_as (Restores y cs ∷ l) s h b = let k = begun_as l s h.1 b in record { past = k.past; call = k.call; begun = k.begun; was = k.was; now = k.now; then = k.then }
+  begun_as (Came (Hears m) ∷ l) s h b = let k = begun_as l s h.1 b in record { past = k.past; call = k.call; begun = k.begun; was = k.was; now = k.now; then = k.then; earlier = inr k.earlier }
+  begun_as (Came (Works a y) ∷ l) s h b = let k = begun_as l s h.1 b in record { past = k.past; call = k.call; begun = k.begun; was = k.was; now = k.now; then = k.then; earlier = inr k.earlier }
+  begun_as (Came (Calls a y) ∷ l) s h b = let k = begun_as l s h.1 b in record { past = k.past; call = k.call; begun = k.begun; was = k.was; now = k.now; then = k.then; earlier = inr k.earlier }
+  begun_as (Came (Operates a) ∷ l) s h b = let k = begun_as l s h.1 b in record { past = k.past; call = k.call; begun = k.begun; was = k.was; now = k.now; then = k.then; earlier = inr k.earlier }
+  begun_as (Skips u v ∷ l) s h b = let k = begun_as l s h.1 b in record { past = k.past; call = k.call; begun = k.begun; was = k.was; now = k.now; then = k.then; earlier = inr k.earlier }
+  begun_as (Done n ∷ l) s h b = let k = begun_as l s h.1 b in record { past = k.past; call = k.call; begun = k.begun; was = k.was; now = k.now; then = k.then; earlier = inr k.earlier }
+  begun_as (Committed y ∷ l) s h b = let k = begun_as l s h.1 b in record { past = k.past; call = k.call; begun = k.begun; was = k.was; now = k.now; then = k.then; earlier = inr k.earlier }
+  begun_as (Gave n m ∷ l) s h b = let k = begun_as l s h.1 b in record { past = k.past; call = k.call; begun = k.begun; was = k.was; now = k.now; then = k.then; earlier = inr k.earlier }
+  begun_as (Changed u c ∷ l) s h b = let k = begun_as l s h.1 b in record { past = k.past; call = k.call; begun = k.begun; was = k.was; now = k.now; then = k.then; earlier = inr k.earlier }
+  begun_as (Replied r ∷ l) s h b = let k = begun_as l s h.1 b in record { past = k.past; call = k.call; begun = k.begun; was = k.was; now = k.now; then = k.then; earlier = inr k.earlier }
+  begun_as (AskFails ∷ l) s h b = let k = begun_as l s h.1 b in record { past = k.past; call = k.call; begun = k.begun; was = k.was; now = k.now; then = k.then; earlier = inr k.earlier }
+  begun_as (Founds ∷ l) s h b = let k = begun_as l s h.1 b in record { past = k.past; call = k.call; begun = k.begun; was = k.was; now = k.now; then = k.then; earlier = inr k.earlier }
+  begun_as (Starts x ∷ l) s h b = let k = begun_as l s h.1 b in record { past = k.past; call = k.call; begun = k.begun; was = k.was; now = k.now; then = k.then; earlier = inr k.earlier }
+  begun_as (Took e ∷ l) s h b = let k = begun_as l s h.1 b in record { past = k.past; call = k.call; begun = k.begun; was = k.was; now = k.now; then = k.then; earlier = inr k.earlier }
+  begun_as (Enters w ∷ l) s h b = let k = begun_as l s h.1 b in record { past = k.past; call = k.call; begun = k.begun; was = k.was; now = k.now; then = k.then; earlier = inr k.earlier }
+  begun_as (Restores y cs ∷ l) s h b = let k = begun_as l s h.1 b in record { past = k.past; call = k.call; begun = k.begun; was = k.was; now = k.now; then = k.then; earlier = inr k.earlier }
