@@ -1,3 +1,4 @@
 pub mod Lists
 pub mod Bases
 pub mod Order
+pub mod LawRun
