@@ -5,4 +5,5 @@ mod Inv
 mod Stepped
 mod Others
 mod Founding
-mod Moves
+pub mod Moves
+mod Written

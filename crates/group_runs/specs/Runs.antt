@@ -1,9 +1,10 @@
 -- What holds of all that happens in a run of the group: each thing was allowed by what had happened before, and the slots are those of a run of a world of nodes.
 use Rattle.std.specs.Prelude.{◌≡◌, ◌⊎◌, ◌<◌, ℕ, Bool, true, false, Option, Some, None, List, [], ◌∷◌, ◌++◌, ◌==◌, length}
-use Rattle.gr_ids.specs.Names.{has_inc}
+use Rattle.gr_ids.specs.Names.{has_inc, bytes_eq}
 use Rattle.gr_ids.specs.declared.names.Inc.{Inc}
 use Rattle.gr_ids.specs.declared.levels.MemberState.{MemberState}
 use Rattle.gr_ids.specs.declared.levels.MemberState.TheVariants.{Offline, Online}
+use Rattle.gtid_sets.specs.Canonical.{IsUuid}
 use Rattle.gtid_sets.specs.Sets.{with_gtid}
 use Rattle.slot_values.specs.declared.value.Joiner.{Joiner}
 use Rattle.slot_values.specs.declared.value.Value.{Value}
@@ -36,11 +37,14 @@ abbrev pub Apart : List Joiner → Type 0
 Apart [] = Unit {0}
 Apart (j ∷ js) = ((k : Joiner) → In k js → k.inc.server ≡ j.inc.server → ⊥) × Apart js
 
--- the founders are the first starts of distinct servers
+-- the founders are the first starts of distinct servers, whose UUIDs aren't the group's
 pub record IsSetup (t : Setup) : Type 0 where
   pub first : (j : Joiner) → In j t.founders → j.inc.start ≡ 1
   pub apart : Apart t.founders
   pub horizon : 0 < t.limits.horizon
+  pub block : 0 < t.limits.block
+  pub group : IsUuid t.limits.group
+  pub uuids : (j : Joiner) → In j t.founders → IsUuid j.uuid × (bytes_eq j.uuid t.limits.group ≡ false)
 
 abbrev pub is_founder : Setup → Inc → Bool
 is_founder t i = has_inc (group_of t).founders i
