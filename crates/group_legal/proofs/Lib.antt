@@ -5,4 +5,5 @@ pub mod Founders
 pub mod Prefix
 pub mod Told
 pub mod Takers
+pub mod Owners
 mod Ordered

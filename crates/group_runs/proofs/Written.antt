@@ -293,7 +293,7 @@ module _ (idle : (ms : List Move) → Idle (world_after ms)) (inv : (ms : List M
                   where
                     rest : (d : Did) → IsFounding (Does i d ∷ p) → IsFounding p
                     rest Founds k = k
-                    rest (Is x c) k = k
+                    rest (Is Online c) k = k
                     rest d k = absurd k
                 none_written (Writes n x ∷ p) k = absurd k
                 none_written (Halts n ∷ p) k = none_written p k

@@ -2,6 +2,7 @@
 use Rattle.std.specs.Prelude.{◌≡◌, ◌⊎◌, ℕ, Bool, true, false, Option, Some, None, List, [], ◌∷◌}
 use Rattle.gr_ids.specs.Names.{bytes_eq}
 use Rattle.gr_ids.specs.declared.names.Inc.{Inc}
+use Rattle.gr_ids.specs.declared.levels.MemberState.TheVariants.{Online}
 use Rattle.gtid_sets.specs.Canonical.{IsUuid}
 use Rattle.node_rules.specs.Lists.{In}
 use Rattle.group_rules.specs.Events.{Did, Founds, Is, Setup, OfflineWrite}
@@ -15,7 +16,7 @@ use Rattle.group_runs.specs.Runs.{IsSetup, is_founder, running_in}
 abbrev pub IsFounding : Past → Type 0
 IsFounding [] = Unit {0}
 IsFounding (Does i Founds ∷ p) = IsFounding p
-IsFounding (Does i (Is x c) ∷ p) = IsFounding p
+IsFounding (Does i (Is Online c) ∷ p) = IsFounding p
 IsFounding (Does i d ∷ p) = ⊥
 IsFounding (Writes n x ∷ p) = ⊥
 IsFounding (Halts n ∷ p) = IsFounding p
