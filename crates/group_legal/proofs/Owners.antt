@@ -28,7 +28,7 @@ use Rattle.group_order.proofs.Nexts.{past_self, past_of, did_past}
 use Rattle.group_laws.specs.Entries as law
 use Rattle.group_laws.specs.Life as lives
 use Rattle.group_laws.specs.World as run
-use Rattle.group_lives.specs.Lives.{did_of, all_did, run_of}
+use Rattle.group_lives.specs.Lives.{placed, made_as, sync_number, asking, did_of, all_did, run_of}
 use Rattle.group_lives.specs.Sound.{HasSets}
 use Rattle.group_lives.proofs.Sets.{canonical}
 
@@ -190,3 +190,230 @@ module _ (base : Inc → List law.Placed) where
           go : (b : Bool) → (j.server == n) ≡ b → ◌≡◌ {A = Option Inc} (elim b [ true ↦ Some j | false ↦ running_in p n ]) (Some i) → ((n : ℕ) (i : Inc) → running_in p n ≡ Some i → run.runs t (run_of base p) i ≡ true) → run.runs t (all_did j (did_of (base j) d (life_in p j)) ++ run_of base p) i ≡ true
           go true q z f = subst (λ y. run.runs t (all_did j (did_of (base j) d (life_in p j)) ++ run_of base p) y ≡ true) (some_is z) (was d h.0 k f)
           go false q z f = runs_other j i (did_of (base j) d (life_in p j)) (run_of base p) (other false q refl i (running_at p n i z)) ∙ f n i z
+
+-- ---- what servers have executed
+
+-- the numbers of the GTIDs that are committed and written offline are within the range of a GTID
+pub record HasNumbers (t : Setup) (w : Past) : Type 0 where
+  pub committed : (p : Past) (i : Inc) (g : Gtid) → IsPast (Does i (Committed g) ∷ p) w → IsUuid g.source × IsNumber g.number
+  pub written : AllWritten (λ p n x. IsNumber x.gtid.number) w
+
+all_written_past : (P : Past → ℕ → OfflineWrite → Type 0) (w p : Past) → IsPast p w → AllWritten P w → AllWritten P p
+all_written_past P [] p h a = subst (AllWritten P) (sym h) tt
+all_written_past P (x ∷ w) p (inl e) a = subst (AllWritten P) (sym e) a
+all_written_past P (Does i d ∷ w) p (inr h) a = all_written_past P w p h a
+all_written_past P (Writes n x ∷ w) p (inr h) a = all_written_past P w p h a.1
+all_written_past P (Halts n ∷ w) p (inr h) a = all_written_past P w p h a
+
+-- the sets of what happened are canonical
+pub record SetsAt (p : Past) : Type 0 where
+  pub stored : (n : ℕ) → IsCanonical (stored_in p n).executed
+  pub lives : (i : Inc) → HasSets (life_in p i)
+
+module _ (t : Setup) (w : Past) (servers : OfServers t w) (numbers : HasNumbers t w) where
+  sets_did : (p : Past) (j : Inc) (d : Did) → IsPast (Does j d ∷ p) w → IsDone t p j d → SetsAt p → HasSets (d ∷ life_in p j)
+  sets_did p j (Starts x) k h s = (subst (λ (y : Stored). IsCanonical y.executed) (sym h.3) (s.stored j.server), s.lives j)
+  sets_did p j (Committed g) k h s = (numbers.committed p j g k, s.lives j)
+  sets_did p j Founds k h s = s.lives j
+  sets_did p j (Came x) k h s = s.lives j
+  sets_did p j (Made v y) k h s = s.lives j
+  sets_did p j (Took e) k h s = s.lives j
+  sets_did p j (Skips a b) k h s = s.lives j
+  sets_did p j (Done a) k h s = s.lives j
+  sets_did p j (Is a b) k h s = s.lives j
+  sets_did p j (Gave a b) k h s = s.lives j
+  sets_did p j (Answered a b) k h s = s.lives j
+  sets_did p j (Begun a b c) k h s = s.lives j
+  sets_did p j (Changed a b) k h s = s.lives j
+  sets_did p j (Replied a) k h s = s.lives j
+  sets_did p j (Called a b c) k h s = s.lives j
+  sets_did p j (AsksCommit a b) k h s = s.lives j
+  sets_did p j (Ends a) k h s = s.lives j
+  sets_did p j (Enters a) k h s = s.lives j
+  sets_did p j (Restores a b) k h s = s.lives j
+  sets_did p j AskFails k h s = s.lives j
+
+  pub sets_at : (p : Past) → IsPast p w → AllDid (IsDone t) p → AllWritten (IsWritten t) p → SetsAt p
+  sets_at [] k d s = record { stored = λ n. tt; lives = λ i. tt }
+  sets_at (Does j d ∷ p) k h s = record { stored = (sets_at p below h.1 s).stored; lives = λ i. go i (inc_eq j i) refl (sets_at p below h.1 s) }
+    where
+      below : IsPast p w
+      below = past_of (Does j d ∷ p) p w k (inr (past_self p))
+
+      go : (i : Inc) (b : Bool) → inc_eq j i ≡ b → SetsAt p → HasSets (elim b [ true ↦ d ∷ life_in p i | false ↦ life_in p i ])
+      go i true e f = subst (λ y. HasSets (d ∷ life_in p y)) (inc_is j i e) (sets_did p j d k h.0 f)
+      go i false e f = f.lives i
+  sets_at (Halts m ∷ p) k h s = record { stored = λ n. go n (m == n) (sets_at p below h s); lives = (sets_at p below h s).lives }
+    where
+      below : IsPast p w
+      below = past_of (Halts m ∷ p) p w k (inr (past_self p))
+
+      after : (n : ℕ) (o : Option Inc) → SetsAt p → IsCanonical (stored_after (stored_in p n) p o).executed
+      after n None f = f.stored n
+      after n (Some i) f = canonical (life_in p i) (f.lives i)
+
+      go : (n : ℕ) (b : Bool) → SetsAt p → IsCanonical (elim b as (λ x. Stored) [ true ↦ stored_after (stored_in p n) p (running_in p n) | false ↦ stored_in p n ]).executed
+      go n true f = after n (running_in p n) f
+      go n false f = f.stored n
+  sets_at (Writes m x ∷ p) k h s = record { stored = λ n. go n (m == n) (sets_at p below h s.1); lives = (sets_at p below h s.1).lives }
+    where
+      below : IsPast p w
+      below = past_of (Writes m x ∷ p) p w k (inr (past_self p))
+
+      number : IsNumber x.gtid.number
+      number = (all_written_past (λ p n x. IsNumber x.gtid.number) w (Writes m x ∷ p) k numbers.written).0
+
+      wrote : ℕ → Stored
+      wrote n = let y : Stored = stored_in p n in record { executed = with_gtid y.executed x.gtid; committed = y.committed; writes = y.writes ++ x ∷ [] }
+
+      go : (n : ℕ) (b : Bool) → SetsAt p → IsCanonical (elim b as (λ x. Stored) [ true ↦ wrote n | false ↦ stored_in p n ]).executed
+      go n true f = canonical_with_gtid (stored_in p n).executed x.gtid s.0.uuid number (f.stored n)
+      go n false f = f.stored n
+
+  -- ---- what the servers of the run have
+
+  module _ (base : Inc → List law.Placed) where
+    owned_other : (j : Inc) (n : ℕ) (ds : List lives.Did) (v : run.World) (g : Gtid) → (j.server == n) ≡ false → run.owned (all_did j ds ++ v) n g ≡ run.owned v n g
+    owned_other j n [] v g h = refl
+    owned_other j n (d ∷ ds) v g h = ap (λ b. (b && run.adds d g) || run.owned (all_did j ds ++ v) n g) h ∙ owned_other j n ds v g h
+
+    -- what a history leaves adds what it commits
+    owned_did : (j : Inc) (d : Did) (p : Past) (v : run.World) (g : Gtid) → (c : Gtid) → d ≡ Committed c → run.owned (all_did j (did_of (base j) d (life_in p j)) ++ v) j.server g ≡ (gtid_eq c g || run.owned v j.server g)
+    owned_did j d p v g c e = ap (λ x. run.owned (all_did j (did_of (base j) x (life_in p j)) ++ v) j.server g) e ∙ ap (λ b. (b && gtid_eq c g) || run.owned v j.server g) (eq-eqb j.server j.server refl)
+
+    none_added : (j : Inc) (n : ℕ) (d : lives.Did) (v : run.World) (g : Gtid) → run.adds d g ≡ false → run.owned (run.Does j d ∷ v) n g ≡ run.owned v n g
+    none_added j n d v g h = ap (λ b. ((j.server == n) && b) || run.owned v n g) h ∙ by (j.server == n) (run.owned v n g)
+      where
+        by : (a b : Bool) → ((a && false) || b) ≡ b
+        by true b = refl
+        by false b = refl
+
+    -- for each server
+    pub record OwnsAs (p : Past) (n : ℕ) (g : Gtid) : Type 0 where
+      pub idle : running_in p n ≡ None → run.owned (run_of base p) n g ≡ has (stored_in p n).executed g
+      pub busy : (i : Inc) → running_in p n ≡ Some i → run.owned (run_of base p) n g ≡ has (executed (life_in p i)) g
+
+    owned_here : (p : Past) (j : Inc) (d : Did) (g : Gtid) → IsPast (Does j d ∷ p) w → IsDone t p j d → SetsAt p → OwnsAs p j.server g → run.owned (all_did j (did_of (base j) d (life_in p j)) ++ run_of base p) j.server g ≡ has (executed (d ∷ life_in p j)) g
+    owned_here p j Founds g k h s o = ap (λ v. run.owned v j.server g) (nothing_run base p (founds_first t w servers.founded p j k h.2 h.1)) ∙ sym (ap (λ l. has (executed l) g) h.1)
+    owned_here p j (Starts x) g k h s o = none_added j j.server (lives.Started x.executed) (run_of base p) g refl ∙ o.idle h.0 ∙ ap (λ (y : Stored). has y.executed g) (sym h.3)
+    owned_here p j (Committed c) g k h s o =
+        let z = numbers.committed p j c k in
+        owned_did j (Committed c) p (run_of base p) g c refl ∙ ap (λ b. gtid_eq c g || b) (o.busy j h.0.running) ∙ sym (all_with_gtid (executed (life_in p j)) c g (canonical (life_in p j) (s.lives j)) z.0 z.1)
+    owned_here p j (Is Error c) g k (inl h) s o = none_added j j.server lives.Fell (run_of base p) g refl ∙ o.busy j h.0
+    owned_here p j (Is Error c) g k (inr h) s o = none_added j j.server lives.Fell (run_of base p) g refl ∙ o.busy j h.0.running
+    owned_here p j (Is Offline c) g k (inl h) s o = o.busy j h.0
+    owned_here p j (Is Offline c) g k (inr h) s o = o.busy j h.0.running
+    owned_here p j (Is Recovering c) g k (inl h) s o = o.busy j h.0
+    owned_here p j (Is Recovering c) g k (inr h) s o = o.busy j h.0.running
+    owned_here p j (Is Online c) g k (inl h) s o = o.busy j h.0
+    owned_here p j (Is Online c) g k (inr h) s o = o.busy j h.0.running
+    owned_here p j (Came (Hears m)) g k h s o = o.busy j h.0.running
+    owned_here p j (Came Ticks) g k h s o = o.busy j h.0.running
+    owned_here p j (Came (Works a b)) g k h s o = o.busy j h.0.running
+    owned_here p j (Came (Calls a b)) g k h s o = o.busy j h.0.running
+    owned_here p j (Came (Operates a)) g k h s o = o.busy j h.0.running
+    owned_here p j (Made v y) g k h s o = made y ∙ o.busy j h.0.running
+      where
+        made : (y : Option Body) → run.owned (all_did j (did_of (base j) (Made v y) (life_in p j)) ++ run_of base p) j.server g ≡ run.owned (run_of base p) j.server g
+        made (Some (HasTxn x)) = none_added j j.server (lives.Made (made_as v (Some (HasTxn x)))) (run.Does j (lives.Asked (asking (life_in p j))) ∷ run_of base p) g refl ∙ none_added j j.server (lives.Asked (asking (life_in p j))) (run_of base p) g refl
+        made y = none_added j j.server (lives.Made (made_as v y)) (run_of base p) g refl
+    owned_here p j (Took e) g k h s o = none_added j j.server (lives.Took (placed e)) (run_of base p) g refl ∙ o.busy j h.0.running
+    owned_here p j (Skips a b) g k h s o = o.busy j h.0.running
+    owned_here p j (Done a) g k h s o = none_added j j.server (lives.Finished a) (run_of base p) g refl ∙ o.busy j h.0.running
+    owned_here p j (Gave a b) g k h s o = o.busy j h.0.running
+    owned_here p j (Answered a y) g k h s o = answered y ∙ o.busy j h.0.running
+      where
+        answered : (y : Answer) → run.owned (all_did j (did_of (base j) (Answered a y) (life_in p j)) ++ run_of base p) j.server g ≡ run.owned (run_of base p) j.server g
+        answered (CommittedAs c) = none_added j j.server (lives.Acked c) (run_of base p) g refl
+        answered y = refl
+    owned_here p j (Begun a b c) g k h s o = none_added j j.server (lives.Begun a) (run_of base p) g refl ∙ o.busy j h.0.running
+    owned_here p j (Changed a b) g k h s o = none_added j j.server (lives.Changed a b) (run_of base p) g refl ∙ o.busy j h.0.running
+    owned_here p j (Replied a) g k h s o = o.busy j h.0.running
+    owned_here p j (Called a b c) g k h s o = none_added j j.server (lives.Called a b (sync_number b (life_in p j))) (run_of base p) g refl ∙ o.busy j h.0.running
+    owned_here p j (AsksCommit a b) g k h s o = o.busy j h.0.running
+    owned_here p j (Ends a) g k h s o = none_added j j.server (lives.Ended a) (run_of base p) g refl ∙ o.busy j h.0.running
+    owned_here p j (Enters a) g k h s o = o.busy j h.0.running
+    owned_here p j (Restores a b) g k h s o = none_added j j.server (lives.Given (base j)) (run_of base p) g refl ∙ o.busy j h.0.running
+    owned_here p j AskFails g k h s o = o.busy j h.0.running
+
+    pub owns_as : (p : Past) → IsPast p w → AllDid (IsDone t) p → AllWritten (IsWritten t) p → (n : ℕ) (g : Gtid) → OwnsAs p n g
+    owns_as [] k d s n g = record { idle = λ h. refl; busy = λ i h. absurd (some_none (sym h)) }
+    owns_as (Does j d ∷ p) k h s n g = go (j.server == n) refl (owns_as p below h.1 s n g) (sets_at p below h.1 s)
+      where
+        below : IsPast p w
+        below = past_of (Does j d ∷ p) p w k (inr (past_self p))
+
+        life_here : life_in (Does j d ∷ p) j ≡ d ∷ life_in p j
+        life_here = ap (λ b. elim b [ true ↦ d ∷ life_in p j | false ↦ life_in p j ]) (inc_same j)
+
+        life_other : (i : Inc) → (j.server == i.server) ≡ false → life_in (Does j d ∷ p) i ≡ life_in p i
+        life_other i e = ap (λ b. elim b [ true ↦ d ∷ life_in p i | false ↦ life_in p i ]) (apart (inc_eq j i) refl)
+          where
+            apart : (b : Bool) → inc_eq j i ≡ b → inc_eq j i ≡ false
+            apart false q = q
+            apart true q = absurd (false≢true (sym e ∙ eq-eqb j.server i.server (ap (λ (y : Inc). y.server) (inc_is j i q))))
+
+        runs : (b : Bool) → (j.server == n) ≡ b → running_in (Does j d ∷ p) n ≡ elim b [ true ↦ Some j | false ↦ running_in p n ]
+        runs b e = ap (λ b. elim b [ true ↦ Some j | false ↦ running_in p n ]) e
+
+        go : (b : Bool) → (j.server == n) ≡ b → OwnsAs p n g → SetsAt p → OwnsAs (Does j d ∷ p) n g
+        go true e o f =
+            let same : j.server ≡ n = eqb-true j.server n e in
+            record {
+              idle = λ q. absurd (some_none (sym (runs true e) ∙ q));
+              busy = λ i q. (let z : j ≡ i = some_is (sym (runs true e) ∙ q) in
+                  subst (λ m. run.owned (all_did j (did_of (base j) d (life_in p j)) ++ run_of base p) m g ≡ has (executed (life_in (Does j d ∷ p) i)) g) same
+                  (owned_here p j d g k h.0 f (subst (λ m. OwnsAs p m g) (sym same) o) ∙ ap (λ l. has (executed l) g) (sym life_here ∙ ap (life_in (Does j d ∷ p)) z)));
+            }
+        go false e o f = record {
+          idle = λ q. owned_other j n (did_of (base j) d (life_in p j)) (run_of base p) g e ∙ o.idle (sym (runs false e) ∙ q);
+          busy = λ i q. (let r : running_in p n ≡ Some i = sym (runs false e) ∙ q in
+              owned_other j n (did_of (base j) d (life_in p j)) (run_of base p) g e ∙ o.busy i r ∙ ap (λ l. has (executed l) g) (sym (life_other i (ap (λ m. j.server == m) (running_at p n i r) ∙ e))));
+        }
+    owns_as (Halts m ∷ p) k h s n g = go (m == n) refl (owns_as p (past_of (Halts m ∷ p) p w k (inr (past_self p))) h s n g)
+      where
+        after : (o : Option Inc) → running_in p n ≡ o → OwnsAs p n g → run.owned (run_of base p) n g ≡ has (stored_after (stored_in p n) p o).executed g
+        after None e o = o.idle e
+        after (Some i) e o = o.busy i e
+
+        runs : (b : Bool) → (m == n) ≡ b → running_in (Halts m ∷ p) n ≡ elim b [ true ↦ None | false ↦ running_in p n ]
+        runs b e = ap (λ b. elim b [ true ↦ None | false ↦ running_in p n ]) e
+
+        stored : (b : Bool) → (m == n) ≡ b → stored_in (Halts m ∷ p) n ≡ elim b [ true ↦ stored_after (stored_in p n) p (running_in p n) | false ↦ stored_in p n ]
+        stored b e = ap (λ b. elim b [ true ↦ stored_after (stored_in p n) p (running_in p n) | false ↦ stored_in p n ]) e
+
+        go : (b : Bool) → (m == n) ≡ b → OwnsAs p n g → OwnsAs (Halts m ∷ p) n g
+        go true e o = record {
+          idle = λ q. after (running_in p n) refl o ∙ ap (λ (y : Stored). has y.executed g) (sym (stored true e));
+          busy = λ i q. absurd (some_none (sym (sym (runs true e) ∙ q)));
+        }
+        go false e o = record {
+          idle = λ q. o.idle (sym (runs false e) ∙ q) ∙ ap (λ (y : Stored). has y.executed g) (sym (stored false e));
+          busy = λ i q. o.busy i (sym (runs false e) ∙ q);
+        }
+    owns_as (Writes m x ∷ p) k h s n g = go (m == n) refl (owns_as p below h s.1 n g) (sets_at p below h s.1)
+      where
+        below : IsPast p w
+        below = past_of (Writes m x ∷ p) p w k (inr (past_self p))
+
+        number : IsNumber x.gtid.number
+        number = (all_written_past (λ p n x. IsNumber x.gtid.number) w (Writes m x ∷ p) k numbers.written).0
+
+        wrote : Stored
+        wrote = let y : Stored = stored_in p n in record { executed = with_gtid y.executed x.gtid; committed = y.committed; writes = y.writes ++ x ∷ [] }
+
+        stored : (b : Bool) → (m == n) ≡ b → stored_in (Writes m x ∷ p) n ≡ elim b [ true ↦ wrote | false ↦ stored_in p n ]
+        stored b e = ap (λ b. elim b [ true ↦ wrote | false ↦ stored_in p n ]) e
+
+        owned : (b : Bool) → (m == n) ≡ b → run.owned (run_of base (Writes m x ∷ p)) n g ≡ ((b && gtid_eq x.gtid g) || run.owned (run_of base p) n g)
+        owned b e = ap (λ b. (b && gtid_eq x.gtid g) || run.owned (run_of base p) n g) e
+
+        go : (b : Bool) → (m == n) ≡ b → OwnsAs p n g → SetsAt p → OwnsAs (Writes m x ∷ p) n g
+        go true e o f = record {
+          idle = λ q. owned true e ∙ ap (λ b. gtid_eq x.gtid g || b) (o.idle q) ∙ sym (all_with_gtid (stored_in p n).executed x.gtid g (f.stored n) s.0.uuid number) ∙ ap (λ (y : Stored). has y.executed g) (sym (stored true e));
+          busy = λ i q. absurd (some_none (sym q ∙ ap (running_in p) (sym (eqb-true m n e)) ∙ s.0.idle));
+        }
+        go false e o f = record {
+          idle = λ q. owned false e ∙ o.idle q ∙ ap (λ (y : Stored). has y.executed g) (sym (stored false e));
+          busy = λ i q. owned false e ∙ o.busy i q;
+        }
