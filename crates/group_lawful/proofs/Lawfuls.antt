@@ -58,22 +58,19 @@ use Rattle.group_lawful.proofs.Commits.{all_in, SameSets, prepared_as, required_
 
 -- ---- the order of what is pending
 
-Ascends : List Cert → Type 0
+abbrev pub Ascends : List Cert → Type 0
 Ascends [] = Unit {0}
 Ascends (c ∷ cs) = ((d : Cert) → In d cs → c.place < d.place) × Ascends cs
 
-ascends_end : (xs : List Cert) (c : Cert) → Ascends xs → ((d : Cert) → In d xs → d.place < c.place) → Ascends (xs ++ c ∷ [])
-unfolding Ascends
+pub ascends_end : (xs : List Cert) (c : Cert) → Ascends xs → ((d : Cert) → In d xs → d.place < c.place) → Ascends (xs ++ c ∷ [])
 ascends_end [] c h f = ((λ d m. absurd m), tt)
 ascends_end (x ∷ xs) c h f = ((λ d m. elim (in_end d xs c m) [ inl q ↦ subst (λ (y : Cert). x.place < y.place) q (f x (inl refl)) | inr k ↦ h.0 d k ]), ascends_end xs c h.1 (λ d m. f d (inr m)))
 
-ascends_reverse : (cs : List Cert) → Descends cs → Ascends (reverse cs)
-unfolding Ascends
+pub ascends_reverse : (cs : List Cert) → Descends cs → Ascends (reverse cs)
 ascends_reverse [] h = tt
 ascends_reverse (c ∷ cs) h = subst Ascends (sym (reverse-append (c ∷ []) cs)) (ascends_end (reverse cs) c (ascends_reverse cs h.1) (λ d m. h.0 d (in_reverse d cs m)))
 
-ascends_filter : (test : Cert → Bool) (xs : List Cert) → Ascends xs → Ascends (filter test xs)
-unfolding Ascends
+pub ascends_filter : (test : Cert → Bool) (xs : List Cert) → Ascends xs → Ascends (filter test xs)
 ascends_filter test [] h = tt
 ascends_filter test (x ∷ xs) h = go (test x) (ascends_filter test xs h.1)
   where
@@ -81,8 +78,7 @@ ascends_filter test (x ∷ xs) h = go (test x) (ascends_filter test xs h.1)
     go true k = ((λ d m. h.0 d (in_filter test d xs m).0), k)
     go false k = k
 
-ascends_before : (xs : List Cert) (c : Cert) (ys : List Cert) → Ascends (xs ++ c ∷ ys) → (d : Cert) → In d xs → d.place < c.place
-unfolding Ascends
+pub ascends_before : (xs : List Cert) (c : Cert) (ys : List Cert) → Ascends (xs ++ c ∷ ys) → (d : Cert) → In d xs → d.place < c.place
 ascends_before [] c ys h d m = absurd m
 ascends_before (x ∷ xs) c ys h d (inl e) = subst (λ (y : Cert). y.place < c.place) e (h.0 c (in_middle xs c ys))
   where

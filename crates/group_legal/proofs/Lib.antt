@@ -6,4 +6,5 @@ pub mod Prefix
 pub mod Told
 pub mod Takers
 pub mod Owners
+pub mod Sorted
 mod Ordered
