@@ -7,4 +7,5 @@ pub mod Told
 pub mod Takers
 pub mod Owners
 pub mod Sorted
+pub mod Stocks
 mod Ordered
