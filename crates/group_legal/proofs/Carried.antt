@@ -85,16 +85,16 @@ committed_cert (Restores y z ∷ l) cs c m = committed_cert l cs c m
 
 -- ---- wherever it is known
 
+pub record CarriedAt (P : Cert → Type 0) (p : Past) : Type 0 where
+  pub lives : (i : Inc) (c : Cert) → In c (certs (life_in p i)) → P c
+  pub had : (i : Inc) (c : Cert) → In c (stored (life_in p i)).committed → P c
+  pub stocks : (n : ℕ) (c : Cert) → In c (stored_in p n).committed → P c
+
 module _ (t : Setup) (w : Past) (x : OneLogOf t w) (done : AllDid (IsDone t) w) (v : Past) (v_past : IsPast v w) (P : Cert → Type 0)
     (took : (p : Past) (i : Inc) (e : Entry) → IsPast (Does i (Took e) ∷ p) v → (c : Cert) → In c (cert_of e) → P c)
     (given : (c : Cert) → P c → P (as_given c)) (readable : (c : Cert) → P c → Readable c) where
-  pub record CarriedAt (p : Past) : Type 0 where
-    pub lives : (i : Inc) (c : Cert) → In c (certs (life_in p i)) → P c
-    pub had : (i : Inc) (c : Cert) → In c (stored (life_in p i)).committed → P c
-    pub stocks : (n : ℕ) (c : Cert) → In c (stored_in p n).committed → P c
-
   abbrev CarriedBefore : Past → Type 0
-  CarriedBefore p = (q : Past) → IsPast q p → CarriedAt q
+  CarriedBefore p = (q : Past) → IsPast q p → CarriedAt P q
 
   restored : (p : Past) (i : Inc) (g : Give) (cs : List Cert) → IsPast (Does i (Restores g cs) ∷ p) v → CarriedBefore p → (c : Cert) → In c cs → P c
   restored p i g cs k h c m =
@@ -146,7 +146,7 @@ module _ (t : Setup) (w : Past) (x : OneLogOf t w) (done : AllDid (IsDone t) w) 
   lives_did p i (Is y z) k h c m = (h p (past_self p)).lives i c m
   lives_did p i (Committed u) k h c m = (h p (past_self p)).lives i c m
 
-  had_did : (p : Past) (i : Inc) (d : Did) → IsDone t p i d → CarriedAt p → (c : Cert) → In c (stored (d ∷ life_in p i)).committed → P c
+  had_did : (p : Past) (i : Inc) (d : Did) → IsDone t p i d → CarriedAt P p → (c : Cert) → In c (stored (d ∷ life_in p i)).committed → P c
   had_did p i (Starts y) k h c m = h.stocks i.server c (subst (λ (z : Stored). In c z.committed) k.3 m)
   had_did p i (Came (Hears n)) k h c m = h.had i c m
   had_did p i (Came Ticks) k h c m = h.had i c m
@@ -172,7 +172,7 @@ module _ (t : Setup) (w : Past) (x : OneLogOf t w) (done : AllDid (IsDone t) w) 
   had_did p i (Restores y z) k h c m = h.had i c m
   had_did p i (Committed u) k h c m = h.had i c m
 
-  does : (p : Past) (j : Inc) (d : Did) → IsPast (Does j d ∷ p) v → CarriedBefore p → CarriedAt (Does j d ∷ p)
+  does : (p : Past) (j : Inc) (d : Did) → IsPast (Does j d ∷ p) v → CarriedBefore p → CarriedAt P (Does j d ∷ p)
   does p j d k h = record { lives = λ i. one i (inc_eq j i) refl; had = λ i. two i (inc_eq j i) refl; stocks = (h p (past_self p)).stocks }
     where
       one : (i : Inc) (b : Bool) → inc_eq j i ≡ b → (c : Cert) → In c (certs (elim b [ true ↦ d ∷ life_in p i | false ↦ life_in p i ])) → P c
@@ -186,7 +186,7 @@ module _ (t : Setup) (w : Past) (x : OneLogOf t w) (done : AllDid (IsDone t) w) 
       two i true e c m = had_did p j d is_done (h p (past_self p)) c (subst (λ y. In c (stored (d ∷ life_in p y)).committed) (sym (inc_is j i e)) m)
       two i false e c m = (h p (past_self p)).had i c m
 
-  halts : (p : Past) (m : ℕ) → CarriedAt p → CarriedAt (Halts m ∷ p)
+  halts : (p : Past) (m : ℕ) → CarriedAt P p → CarriedAt P (Halts m ∷ p)
   halts p m h = record { lives = h.lives; had = h.had; stocks = λ n. go n (m == n) }
     where
       after : (n : ℕ) (o : Option Inc) (c : Cert) → In c (stored_after (stored_in p n) p o).committed → P c
@@ -200,7 +200,7 @@ module _ (t : Setup) (w : Past) (x : OneLogOf t w) (done : AllDid (IsDone t) w) 
       go n true c k = after n (running_in p n) c k
       go n false c k = h.stocks n c k
 
-  writes : (p : Past) (m : ℕ) (y : OfflineWrite) → CarriedAt p → CarriedAt (Writes m y ∷ p)
+  writes : (p : Past) (m : ℕ) (y : OfflineWrite) → CarriedAt P p → CarriedAt P (Writes m y ∷ p)
   writes p m y h = record { lives = h.lives; had = h.had; stocks = λ n. go n (m == n) }
     where
       wrote : ℕ → Stored
@@ -211,19 +211,19 @@ module _ (t : Setup) (w : Past) (x : OneLogOf t w) (done : AllDid (IsDone t) w) 
       go n false c k = h.stocks n c k
 
   pub carried : (p : Past) → IsPast p v → CarriedBefore p
-  carried [] k q e = subst CarriedAt (sym e) (record { lives = λ i c m. absurd m; had = λ i c m. absurd m; stocks = λ n c m. absurd m })
+  carried [] k q e = subst (CarriedAt P) (sym e) (record { lives = λ i c m. absurd m; had = λ i c m. absurd m; stocks = λ n c m. absurd m })
   carried (Does j d ∷ p) k q e = go e (carried p (past_of (Does j d ∷ p) p v k (inr (past_self p))))
     where
-      go : (q ≡ Does j d ∷ p) ⊎ IsPast q p → CarriedBefore p → CarriedAt q
-      go (inl z) h = subst CarriedAt (sym z) (does p j d k h)
+      go : (q ≡ Does j d ∷ p) ⊎ IsPast q p → CarriedBefore p → CarriedAt P q
+      go (inl z) h = subst (CarriedAt P) (sym z) (does p j d k h)
       go (inr z) h = h q z
   carried (Halts m ∷ p) k q e = go e (carried p (past_of (Halts m ∷ p) p v k (inr (past_self p))))
     where
-      go : (q ≡ Halts m ∷ p) ⊎ IsPast q p → CarriedBefore p → CarriedAt q
-      go (inl z) h = subst CarriedAt (sym z) (halts p m (h p (past_self p)))
+      go : (q ≡ Halts m ∷ p) ⊎ IsPast q p → CarriedBefore p → CarriedAt P q
+      go (inl z) h = subst (CarriedAt P) (sym z) (halts p m (h p (past_self p)))
       go (inr z) h = h q z
   carried (Writes m y ∷ p) k q e = go e (carried p (past_of (Writes m y ∷ p) p v k (inr (past_self p))))
     where
-      go : (q ≡ Writes m y ∷ p) ⊎ IsPast q p → CarriedBefore p → CarriedAt q
-      go (inl z) h = subst CarriedAt (sym z) (writes p m y (h p (past_self p)))
+      go : (q ≡ Writes m y ∷ p) ⊎ IsPast q p → CarriedBefore p → CarriedAt P q
+      go (inl z) h = subst (CarriedAt P) (sym z) (writes p m y (h p (past_self p)))
       go (inr z) h = h q z
