@@ -11,3 +11,4 @@ pub mod Stocks
 mod Ordered
 pub mod Carried
 pub mod Listed
+pub mod Knowing

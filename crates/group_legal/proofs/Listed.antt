@@ -112,7 +112,7 @@ given_gtid e c h = go e.effect e.holds refl refl h
     go Unread b p q z = absurd z
     go (Conflict g) b p q z = absurd z
 
-says_txn : (t : Setup) (v : View) (w : What) (f : Effect) (x : Txn) (g : Gtid) → IsEffect t v w (Some (HasTxn x)) f → f ≡ Positive g → (g.source ≡ t.limits.group) × ((b : List ℕ) × (w ≡ Says b))
+pub says_txn : (t : Setup) (v : View) (w : What) (f : Effect) (x : Txn) (g : Gtid) → IsEffect t v w (Some (HasTxn x)) f → f ≡ Positive g → (g.source ≡ t.limits.group) × ((b : List ℕ) × (w ≡ Says b))
 says_txn t v (Says b) f x g h e = let z : IsEffect t v (Says b) (Some (HasTxn x)) (Positive g) = subst (IsEffect t v (Says b) (Some (HasTxn x))) e h in (z, (b, refl))
 says_txn t v Noop f x g h e = absurd h
 says_txn t v (Add j) f x g h e = absurd h
