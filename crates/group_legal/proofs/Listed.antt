@@ -24,9 +24,10 @@ use Rattle.group_rules.specs.Parts.{open_parts, joined_or, held_part, held_body,
 use Rattle.group_rules.specs.View.{View}
 use Rattle.group_rules.specs.Legal.{IsPast}
 use Rattle.group_rules.specs.World.{Past, Does, life_in}
-use Rattle.group_runs.specs.Runs.{IsSetup, AllDid, IsDone, stored_in}
+use Rattle.group_runs.specs.Runs.{IsSetup, is_founder, AllDid, IsDone}
 use Rattle.group_order.specs.OneLog.{IsReady, TakenAs, Follows, OneLogOf}
-use Rattle.group_order.proofs.Nexts.{past_self, past_of, done_at}
+use Rattle.group_order.proofs.Nexts.{past_self, past_of, did_past, done_at}
+use Rattle.group_order.proofs.Shapes.{Shape, shapes, takes_after}
 use Rattle.group_laws.specs.Lists as listing
 use Rattle.group_laws.specs.Lists.{Mem}
 use Rattle.group_laws.specs.Entries as law
@@ -177,25 +178,41 @@ module _ (t : Setup) (setup : IsSetup t) (w : Past) (x : OneLogOf t w) (done : A
       let b = body_read spelled r.0 (HasTxn g.txn) r.1 in
       subst Fine g.is_it ((subst IsUuid (sym s.0) setup.group, small.given p i e g.gtid k g.effect), ap read_body (sym b.1) ∙ r.1)
 
+  pub fine_at : (p : Past) → IsPast p w → CarriedAt Fine p
+  fine_at p k = carried t w x done w (past_self w) Fine fine_took (λ c h. h) (λ c h. h.1) p k p (past_self p)
+
+  -- one that takes an entry is ready
+  pub ready_took : (p : Past) (i : Inc) (e : Entry) → IsPast (Does i (Took e) ∷ p) w → IsReady t i (life_in p i)
+  ready_took p i e k = elim (cases_Bool (is_founder t i)) [ inl f ↦ inl f | inr f ↦ inr (takes_after t i (life_in p i) shape is_done.1.1 f).2 ]
+    where
+      is_done : IsDone t p i (Took e)
+      is_done = done_at (IsDone t) w p i (Took e) done k
+
+      shape : Shape t i (life_in p i)
+      shape = shapes t p (did_past (IsDone t) w (Does i (Took e) ∷ p) done k).1 i
+
   module _ (v : Past) (v_past : IsPast v w)
-      (judges : (p : Past) → IsPast p v → (i : Inc) → IsReady t i (life_in p i) → 0 < length (life_in p i) → TakesOf t x.log (base_in t x.log w i) (life_in p i) × JudgesAs t x.log (base_in t x.log w i) (life_in p i))
-      (ready : (p : Past) (i : Inc) (e : Entry) → IsPast (Does i (Took e) ∷ p) w → IsReady t i (life_in p i)) where
+      (judges : (p : Past) → IsPast p v → (i : Inc) → IsReady t i (life_in p i) → 0 < length (life_in p i) → TakesOf t x.log (base_in t x.log w i) (life_in p i) × JudgesAs t x.log (base_in t x.log w i) (life_in p i)) where
+    -- what it took is of the list, with its verdict
+    pub judged_took : (p : Past) (i : Inc) (e : Entry) → IsPast (Does i (Took e) ∷ p) v → TakesOf t x.log (base_in t x.log w i) (Took e ∷ life_in p i) × JudgesAs t x.log (base_in t x.log w i) (Took e ∷ life_in p i)
+    judged_took p i e k =
+        subst (λ l. TakesOf t x.log (base_in t x.log w i) l × JudgesAs t x.log (base_in t x.log w i) l) here
+        (judges (Does i (Took e) ∷ p) k i (subst (IsReady t i) (sym here) (ready_took p i e (past_of v (Does i (Took e) ∷ p) w v_past k))) (subst (λ l. 0 < length l) (sym here) (omega arith)))
+      where
+        here : life_in (Does i (Took e) ∷ p) i ≡ Took e ∷ life_in p i
+        here = ap (λ b. elim b [ true ↦ Took e ∷ life_in p i | false ↦ life_in p i ]) (inc_same i)
+
     listed_took : (p : Past) (i : Inc) (e : Entry) → IsPast (Does i (Took e) ∷ p) v → (c : Cert) → In c (cert_of e) → Known t (list_of t x.log) c
     listed_took p i e k c m = (fine_took p i e in_w c m, (law_cert c, there, record { place = refl; origin = refl; number = inl refl; gtid = refl; txn = refl }))
       where
         in_w : IsPast (Does i (Took e) ∷ p) w
         in_w = past_of v (Does i (Took e) ∷ p) w v_past k
 
-        abbrev_life : life_in (Does i (Took e) ∷ p) i ≡ Took e ∷ life_in p i
-        abbrev_life = ap (λ b. elim b [ true ↦ Took e ∷ life_in p i | false ↦ life_in p i ]) (inc_same i)
-
         base : List law.Placed
         base = base_in t x.log w i
 
         both : TakesOf t x.log base (Took e ∷ life_in p i) × JudgesAs t x.log base (Took e ∷ life_in p i)
-        both =
-            subst (λ l. TakesOf t x.log base l × JudgesAs t x.log base l) abbrev_life
-            (judges (Does i (Took e) ∷ p) k i (subst (IsReady t i) (sym abbrev_life) (ready p i e in_w)) (subst (λ l. 0 < length l) (sym abbrev_life) (omega arith)))
+        both = judged_took p i e k
 
         place : suc (length (lives.marked (life_of base (life_in p i)))) ≡ e.place
         place = ap suc (places_agree t base (life_in p i) both.0.taking.1) ∙ sym both.0.taking.0.0
