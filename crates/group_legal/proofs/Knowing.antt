@@ -1,6 +1,7 @@
 -- What each history knows of the list: it has each certified transaction up to its place, or has executed it; and so has each server what it executed.
 use Rattle.std.proofs.Common.{◌≡◌, ◌⊎◌, inl, inr, ℕ, suc, ◌≤◌, ◌<◌, Bool, true, false, not, ◌&&◌, ◌||◌, Option, Some, None, List, [], ◌∷◌, ◌++◌, refl, sym, ap, subst, ◌∙◌, length, arith}
 use Rattle.std.specs.Prelude.{filter, map, reverse, nat_le, ◌==◌}
+use Rattle.std.proofs.lemmas.List.{reverse-append}
 use Rattle.std.proofs.lemmas.Bool.{false≢true, cases_Bool, or_cases, or_right, eqb-true, leb-true, le-leb}
 use Rattle.gr_ids.specs.Names.{inc_eq, gtid_eq, bytes_eq}
 use Rattle.gr_ids.specs.declared.names.Inc.{Inc}
@@ -21,7 +22,7 @@ use Rattle.group_rules.specs.Names.{Give}
 use Rattle.group_rules.specs.declared.marks.Effect.{Effect}
 use Rattle.group_rules.specs.declared.marks.Effect.TheVariants.{Plain, Void, Unread, Positive, Conflict}
 use Rattle.group_rules.specs.Events.{Did, Founds, Starts, Came, Made, Took, Skips, Done, Committed, Is, Gave, Answered, Begun, Changed, Replied, Called, AsksCommit, Ends, Enters, Restores, AskFails, Hears, Ticks, Works, Calls, Operates, Life, Setup, Entry, Stored, OfflineWrite, Cert}
-use Rattle.group_rules.specs.Life.{executed, view, taken, entered, has_give, cert_by, cert_of, certs, stored}
+use Rattle.group_rules.specs.Life.{state, is_recovering, executed, view, taken, entered, has_give, cert_by, cert_of, certs, stored}
 use Rattle.group_rules.specs.View.{View}
 use Rattle.group_rules.specs.Rows.{all_in, known}
 use Rattle.group_rules.specs.Recovery.{certs_given, given_of, gtids_of}
@@ -50,18 +51,19 @@ use Rattle.group_lives.proofs.Taking.{places_agree}
 use Rattle.group_lawful.specs.Lived.{Lived}
 use Rattle.group_lawful.specs.Knows.{Alike, Descends}
 use Rattle.group_lawful.proofs.Lives.{lived}
-use Rattle.group_lawful.proofs.Opens.{in_filter, in_reverse, in_pending, unready, ready_or}
-use Rattle.group_lawful.proofs.Given.{cert_place}
-use Rattle.group_lawful.proofs.Known.{executed_stays}
+use Rattle.group_lawful.proofs.Opens.{in_filter, in_reverse, in_end, in_pending, unready}
+use Rattle.group_lawful.proofs.Lawfuls.{Ascends, ascends_filter, commit_new}
+use Rattle.group_lawful.proofs.Given.{cert_place, cert_within}
+use Rattle.group_laws.proofs.Acks.{upto_is_past}
 use Rattle.group_legal.specs.Bases.{list_of, base_in, TakesOf, JudgesAs}
 use Rattle.group_legal.specs.Ranges.{HasSmallNumbers}
 use Rattle.group_legal.proofs.Scanned.{scanned}
 use Rattle.group_legal.proofs.Told.{Spelled}
-use Rattle.group_legal.proofs.Owners.{HasNumbers, SetsAt, sets_at}
+use Rattle.group_legal.proofs.Owners.{HasNumbers, SetsAt, sets_at, written_past}
 use Rattle.group_legal.proofs.Sorted.{Apart, NoTwice, all_ascends, all_first, all_second}
 use Rattle.group_legal.proofs.Stocks.{Readable, StockOf, CommitsOnce, CertsOf, filter_in, in_first, in_second, in_either, stopped}
 use Rattle.group_legal.proofs.Carried.{as_given, given_back, in_map, map_in, in_known, CarriedAt}
-use Rattle.group_legal.proofs.Listed.{Known, GivenGtid, given_gtid, says_txn, known_at}
+use Rattle.group_legal.proofs.Listed.{Known, given_gtid, fine_at, ready_took, judged_took, known_at}
 
 -- ---- small lists
 
@@ -179,3 +181,268 @@ cert_back t v e n d h p q = go e.value.what e.effect e.holds refl refl refl h q
     go : (w : What) (f : Effect) (o : Option Body) → e.value.what ≡ w → e.effect ≡ f → e.holds ≡ o → IsEffect t v e.value.what e.holds e.effect → law.cert_of t n (placed e) ≡ Some d → Goal
     go (Says b) f o a y u k z = says b f o y u (subst (λ w. w) (ap (λ w. IsEffect t v w e.holds e.effect) a ∙ ap (λ o. IsEffect t v (Says b) o e.effect) u ∙ ap (λ f. IsEffect t v (Says b) o f) y) k) (sym (same (Says b) f o a y u) ∙ z)
     go w f o a y u k z = adds w f o (λ b x. absurd (cc x)) (sym (same w f o a y u) ∙ z)
+
+-- ---- in order
+
+descends_more : (e : Entry) (cs : List Cert) → Descends cs → ((c : Cert) → In c cs → c.place < e.place) → Descends (cert_of e ++ cs)
+descends_more e cs h f = go e.effect e.holds
+  where
+    go : (f : Effect) (b : Option Body) → Descends (cert_by e.place e.value.id f b ++ cs)
+    go (Positive g) (Some (HasTxn x)) = (f, h)
+    go (Positive g) (Some (Prepared y)) = h
+    go (Positive g) (Some Sync) = h
+    go (Positive g) (Some (Executed y)) = h
+    go (Positive g) (Some (Arrives y)) = h
+    go (Positive g) (Some (Switches m)) = h
+    go (Positive g) (Some (Appoints i)) = h
+    go (Positive g) (Some (PartOf y)) = h
+    go (Positive g) None = h
+    go Plain b = h
+    go Void b = h
+    go Unread b = h
+    go (Conflict g) b = h
+
+descends_end : (cs : List Cert) (c : Cert) → Descends cs → ((d : Cert) → In d cs → c.place < d.place) → Descends (cs ++ c ∷ [])
+descends_end [] c h f = ((λ d m. absurd m), tt)
+descends_end (x ∷ xs) c h f = ((λ d m. elim (in_end d xs c m) [ inl q ↦ subst (λ (y : Cert). y.place < x.place) q (f x (inl refl)) | inr k ↦ h.0 d k ]), descends_end xs c h.1 (λ d m. f d (inr m)))
+
+descends_reverse : (cs : List Cert) → Ascends cs → Descends (reverse cs)
+descends_reverse [] h = tt
+descends_reverse (c ∷ cs) h = subst Descends (sym (reverse-append (c ∷ []) cs)) (descends_end (reverse cs) c (descends_reverse cs h.1) (λ d m. h.0 d (in_reverse d cs m)))
+
+ascends_given : (cs : List Cert) → Ascends cs → Ascends (map as_given cs)
+ascends_given [] h = tt
+ascends_given (c ∷ cs) h = ((λ d m. let r = in_map cs d m in subst (λ (y : Cert). c.place < y.place) r.2 (h.0 r.0 r.1)), ascends_given cs h.1)
+
+descends_apart : (cs : List Cert) → Descends cs → NoTwice cs
+descends_apart [] h = tt
+descends_apart (c ∷ cs) h = ((λ y m e. let z = h.0 y m in absurd (omega (arith, z, e))), descends_apart cs h.1)
+
+-- ---- the GTIDs of transactions
+
+gtids_canonical : (cs : List Cert) → ((c : Cert) → In c cs → IsUuid c.gtid.source × IsNumber c.gtid.number) → IsCanonical (gtids_of cs)
+gtids_canonical [] f = tt
+gtids_canonical (c ∷ cs) f = canonical_with_gtid (gtids_of cs) c.gtid (f c (inl refl)).0 (f c (inl refl)).1 (gtids_canonical cs (λ y m. f y (inr m)))
+
+of_gtids : (cs : List Cert) (g : Gtid) → ((c : Cert) → In c cs → IsUuid c.gtid.source × IsNumber c.gtid.number) → has (gtids_of cs) g ≡ true → (c : Cert) × In c cs × (c.gtid ≡ g)
+of_gtids [] g f h = absurd (false≢true h)
+of_gtids (c ∷ cs) g f h = go (or_cases (gtid_eq c.gtid g) (has (gtids_of cs) g) (sym (all_with_gtid (gtids_of cs) c.gtid g (gtids_canonical cs (λ y m. f y (inr m))) (f c (inl refl)).0 (f c (inl refl)).1) ∙ h)) (of_gtids cs g (λ y m. f y (inr m)))
+  where
+    go : (gtid_eq c.gtid g ≡ true) ⊎ (has (gtids_of cs) g ≡ true) → (has (gtids_of cs) g ≡ true → (y : Cert) × In y cs × (y.gtid ≡ g)) → (y : Cert) × In y (c ∷ cs) × (y.gtid ≡ g)
+    go (inl q) k = (c, inl refl, gtid_eq_same c.gtid g q)
+    go (inr q) k = let r = k q in (r.0, inr r.1, r.2)
+
+-- nothing is extra: what the one set has the other has too
+none_extra : (a b : Gtids) (g : Gtid) → IsCanonical a → IsCanonical b → minus a b ≡ [] → has a g ≡ true → has b g ≡ true
+none_extra a b g p q e h = go (has b g) refl
+  where
+    go : (z : Bool) → has b g ≡ z → has b g ≡ true
+    go true r = r
+    go false r = absurd (false≢true (sym (ap (λ y. has y g) e) ∙ all_minus a b g p q ∙ (λ j. h j && not (r j))))
+
+-- ---- what it was started with
+
+stored_stays : (t : Setup) (i : Inc) (l p : Life) → left.IsPast p l → Lived t i l → 0 < length p → stored p ≡ stored l
+stored_stays t i [] p h k n = ap stored h
+stored_stays t i (Starts y ∷ l) p (inl e) k n = ap stored e
+stored_stays t i (Starts y ∷ l) p (inr h) k n = absurd (none l p k.0.0 h n)
+  where
+    none : (l p : Life) → l ≡ [] → left.IsPast p l → 0 < length p → ⊥
+    none [] p q h n = let z : length p ≡ 0 = ap length h in omega (arith, z, n)
+    none (d ∷ l) p q h n = absurd (cc q)
+stored_stays t i (Came (Hears m) ∷ l) p (inl e) k n = ap stored e
+stored_stays t i (Came (Hears m) ∷ l) p (inr h) k n = stored_stays t i l p h k.1 n
+stored_stays t i (Came Ticks ∷ l) p (inl e) k n = ap stored e
+stored_stays t i (Came Ticks ∷ l) p (inr h) k n = stored_stays t i l p h k.1 n
+stored_stays t i (Came (Works z y) ∷ l) p (inl e) k n = ap stored e
+stored_stays t i (Came (Works z y) ∷ l) p (inr h) k n = stored_stays t i l p h k.1 n
+stored_stays t i (Came (Calls z y) ∷ l) p (inl e) k n = ap stored e
+stored_stays t i (Came (Calls z y) ∷ l) p (inr h) k n = stored_stays t i l p h k.1 n
+stored_stays t i (Came (Operates z) ∷ l) p (inl e) k n = ap stored e
+stored_stays t i (Came (Operates z) ∷ l) p (inr h) k n = stored_stays t i l p h k.1 n
+stored_stays t i (Skips u v ∷ l) p (inl e) k n = ap stored e
+stored_stays t i (Skips u v ∷ l) p (inr h) k n = stored_stays t i l p h k.1 n
+stored_stays t i (Gave m j ∷ l) p (inl e) k n = ap stored e
+stored_stays t i (Gave m j ∷ l) p (inr h) k n = stored_stays t i l p h k.1 n
+stored_stays t i (Replied r ∷ l) p (inl e) k n = ap stored e
+stored_stays t i (Replied r ∷ l) p (inr h) k n = stored_stays t i l p h k.1 n
+stored_stays t i (AskFails ∷ l) p (inl e) k n = ap stored e
+stored_stays t i (AskFails ∷ l) p (inr h) k n = stored_stays t i l p h k.1 n
+stored_stays t i (Founds ∷ l) p (inl e) k n = ap stored e
+stored_stays t i (Founds ∷ l) p (inr h) k n = stored_stays t i l p h k.1 n
+stored_stays t i (Enters z ∷ l) p (inl e) k n = ap stored e
+stored_stays t i (Enters z ∷ l) p (inr h) k n = stored_stays t i l p h k.1 n
+stored_stays t i (Done q ∷ l) p (inl e) k n = ap stored e
+stored_stays t i (Done q ∷ l) p (inr h) k n = stored_stays t i l p h k.1 n
+stored_stays t i (Begun u y z ∷ l) p (inl e) k n = ap stored e
+stored_stays t i (Begun u y z ∷ l) p (inr h) k n = stored_stays t i l p h k.1 n
+stored_stays t i (Changed u z ∷ l) p (inl e) k n = ap stored e
+stored_stays t i (Changed u z ∷ l) p (inr h) k n = stored_stays t i l p h k.1 n
+stored_stays t i (Called u y z ∷ l) p (inl e) k n = ap stored e
+stored_stays t i (Called u y z ∷ l) p (inr h) k n = stored_stays t i l p h k.1 n
+stored_stays t i (AsksCommit u y ∷ l) p (inl e) k n = ap stored e
+stored_stays t i (AsksCommit u y ∷ l) p (inr h) k n = stored_stays t i l p h k.1 n
+stored_stays t i (Ends u ∷ l) p (inl e) k n = ap stored e
+stored_stays t i (Ends u ∷ l) p (inr h) k n = stored_stays t i l p h k.1 n
+stored_stays t i (Took z ∷ l) p (inl e) k n = ap stored e
+stored_stays t i (Took z ∷ l) p (inr h) k n = stored_stays t i l p h k.1 n
+stored_stays t i (Made u y ∷ l) p (inl e) k n = ap stored e
+stored_stays t i (Made u y ∷ l) p (inr h) k n = stored_stays t i l p h k.1 n
+stored_stays t i (Answered u y ∷ l) p (inl e) k n = ap stored e
+stored_stays t i (Answered u y ∷ l) p (inr h) k n = stored_stays t i l p h k.1 n
+stored_stays t i (Is y z ∷ l) p (inl e) k n = ap stored e
+stored_stays t i (Is y z ∷ l) p (inr h) k n = stored_stays t i l p h k.1 n
+stored_stays t i (Restores y z ∷ l) p (inl e) k n = ap stored e
+stored_stays t i (Restores y z ∷ l) p (inr h) k n = stored_stays t i l p h k.1 n
+stored_stays t i (Committed u ∷ l) p (inl e) k n = ap stored e
+stored_stays t i (Committed u ∷ l) p (inr h) k n = stored_stays t i l p h k.1 n
+
+recovering_began : (l : Life) → is_recovering (state l) ≡ true → 0 < length l
+recovering_began [] h = absurd (false≢true h)
+recovering_began (d ∷ l) h = omega arith
+
+-- ---- one thing more
+
+module _ (t : Setup) (setup : IsSetup t) (w : Past) (x : OneLogOf t w) (done : AllDid (IsDone t) w) (servers : OfServers t w) (spelled : Spelled) (small : HasSmallNumbers w) (v : Past) (v_past : IsPast v w)
+    (judges : (p : Past) → IsPast p v → (i : Inc) → IsReady t i (life_in p i) → 0 < length (life_in p i) → TakesOf t x.log (base_in t x.log w i) (life_in p i) × JudgesAs t x.log (base_in t x.log w i) (life_in p i)) where
+  abbrev list : List law.Placed
+  list = list_of t x.log
+
+  abbrev KnownBefore : Past → Type 0
+  KnownBefore p = (q : Past) → IsPast q p → KnownAt t list q
+
+  in_w : (p : Past) → IsPast p v → IsPast p w
+  in_w p k = past_of v p w v_past k
+
+  distinct : (c d : law.Cert) → Mem c (law.certified t list) → Mem d (law.certified t list) → c.gtid ≡ d.gtid → c ≡ d
+  distinct c d m n =
+      let e : list ≡ decided.scan t (law.values list) = scanned t [] x.log in
+      gtids_distinct t setup.block (law.values list) c d (subst (λ y. Mem c (law.certified t y)) e m) (subst (λ y. Mem d (law.certified t y)) e n)
+
+  everywhere : (p : Past) → IsPast p v → CarriedAt (Known t list) p
+  everywhere p k = known_at t setup w x done spelled small v v_past judges p k
+
+  -- ---- sets
+
+  commit_cert : (p : Past) (i : Inc) (g : Gtid) → (h : left.IsCommitted t i (life_in p i) g) → In h.cert (certs (life_in p i))
+  commit_cert p i g h = subst (In h.cert) (sym h.certs) (in_pending h.begin h.cert (subst (In h.cert) (sym h.pending) (in_second h.cert h.first (h.cert ∷ h.rest) (inl refl)))).0
+
+  numbers : HasNumbers t w
+  numbers = record {
+    committed = λ p i g k. (let h : IsDone t p i (Committed g) = done_at (IsDone t) w p i (Committed g) done k in
+        subst (λ (y : Gtid). IsUuid y.source × IsNumber y.number) h.1.1.is_it ((fine_at t setup w x done spelled small p (past_of (Does i (Committed g) ∷ p) p w k (inr (past_self p)))).lives i h.1.1.cert (commit_cert p i g h.1.1)).0);
+    written = small.written;
+  }
+
+  sets : (p : Past) → IsPast p w → SetsAt p
+  sets p k = sets_at t w servers numbers p k (did_past (IsDone t) w p done k) (written_past (IsWritten t) w p k servers.written)
+
+  -- ---- an entry
+
+  took_known : (p : Past) (i : Inc) (e : Entry) → IsPast (Does i (Took e) ∷ p) v → LifeKnows t list i (life_in p i) → LifeKnows t list i (Took e ∷ life_in p i)
+  took_known p i e k h = record {
+    complete = λ d m z. elim (h.complete d m z) [ inl a ↦ inl a | inr b ↦ inr (b.0, in_second b.0 (cert_of e) (certs l) b.1, b.2) ];
+    reached = λ r d m n. reached d m n (cons_cases (law.cert_of t (suc (length marked)) (placed e)) (law.certified t marked) d (within d m n));
+    descends = descends_more e (certs l) h.descends (λ c m. let z = h.below c m in omega (arith, z, place));
+    below = λ c m. elim (in_either c (cert_of e) (certs l) m) [ inl n ↦ (let z = new c n in omega (arith, z)) | inr n ↦ (let z = h.below c n in omega (arith, z, place)) ];
+    had = λ r c m. (let z = h.had is_ready c m in omega (arith, z, place));
+    apart = λ c m. elim (in_either c (cert_of e) (certs l) m) [
+      | inl n ↦ (λ y u q. let a = new c n in let b = h.had is_ready y u in omega (arith, a, b, q, place))
+      | inr n ↦ h.apart c n
+    ];
+    once = h.once;
+    stays = h.stays;
+    stock = h.stock;
+  }
+    where
+      l : Life
+      l = life_in p i
+
+      base : List law.Placed
+      base = base_in t x.log w i
+
+      marked : List law.Placed
+      marked = lives.marked (life_of base l)
+
+      both : TakesOf t x.log base (Took e ∷ life_in p i) × JudgesAs t x.log base (Took e ∷ life_in p i)
+      both = judged_took t setup w x done spelled small v v_past judges p i e k
+
+      is_ready : IsReady t i l
+      is_ready = ready_took t setup w x done spelled small p i e (in_w (Does i (Took e) ∷ p) k)
+
+      place : e.place ≡ suc (taken l)
+      place = both.0.taking.0.0
+
+      long : length marked ≡ taken l
+      long = places_agree t base l both.0.taking.1
+
+      new : (c : Cert) → In c (cert_of e) → c.place ≡ e.place
+      new c m = sym (ap (λ (y : Cert). y.place) (given_gtid e c m).is_it)
+
+      within : (d : law.Cert) → Mem d (law.certified t list) → d.place ≤ e.place → Mem d (law.certified t (placed e ∷ marked))
+      within d m n =
+          cert_within t (placed e ∷ marked) list d (subst (λ y. listing.IsPast y list) (sym both.1) (upto_is_past e.place list)) m (omega (arith, n, place, long))
+
+      reached : (d : law.Cert) → Mem d (law.certified t list) → d.place ≤ e.place → (law.cert_of t (suc (length marked)) (placed e) ≡ Some d) ⊎ Mem d (law.certified t marked)
+          → ((c : Cert) × In c (cert_of e ++ certs l) × Alike c d) ⊎ (has (executed l) d.gtid ≡ true)
+      reached d m n (inl q) =
+          let c = cert_back t (view t l) e (suc (length marked)) d both.0.taking.0.1 (place ∙ ap suc (sym long)) q in
+          inl (c.0, in_first c.0 (cert_of e) (certs l) c.1, c.2)
+      reached d m n (inr q) =
+          let z = place_le t marked d q in
+          elim (h.reached is_ready d m (omega (arith, z, long))) [ inl b ↦ inl (b.0, in_second b.0 (cert_of e) (certs l) b.1, b.2) | inr b ↦ inr b ]
+
+  -- ---- a commit
+
+  committed_known : (p : Past) (i : Inc) (g : Gtid) → IsPast (Does i (Committed g) ∷ p) v → IsPast p v → LifeKnows t list i (life_in p i) → LifeKnows t list i (Committed g ∷ life_in p i)
+  committed_known p i g k below h = record {
+    complete = λ d m z. complete d m (or_cases (gtid_eq g d.gtid) (has (executed l) d.gtid) (sym (more d.gtid) ∙ z));
+    reached = λ r d m n. elim (h.reached r d m n) [ inl b ↦ inl b | inr b ↦ inr (grows d.gtid b) ];
+    descends = h.descends;
+    below = h.below;
+    had = h.had;
+    apart = h.apart;
+    once = ((ap (has (executed l)) (sym y.is_it) ∙ new, (y.cert, here, y.is_it)), h.once);
+    stays = λ u z. grows u (h.stays u z);
+    stock = h.stock;
+  }
+    where
+      l : Life
+      l = life_in p i
+
+      y : left.IsCommitted t i (life_in p i) g
+      y = (done_at (IsDone t) w p i (Committed g) done (in_w (Does i (Committed g) ∷ p) k)).1.1
+
+      here : In y.cert (certs (life_in p i))
+      here = commit_cert p i g y
+
+      set : HasSets (life_in p i)
+      set = (sets p (in_w p below)).lives i
+
+      gtid : IsUuid g.source × IsNumber g.number
+      gtid = numbers.committed p i g (in_w (Does i (Committed g) ∷ p) k)
+
+      more : (u : Gtid) → has (with_gtid (executed (life_in p i)) g) u ≡ (gtid_eq g u || has (executed (life_in p i)) u)
+      more u = all_with_gtid (executed (life_in p i)) g u (canonical (life_in p i) set) gtid.0 gtid.1
+
+      grows : (u : Gtid) → has (executed (life_in p i)) u ≡ true → has (with_gtid (executed (life_in p i)) g) u ≡ true
+      grows u e = more u ∙ or_right (gtid_eq g u) (has (executed (life_in p i)) u) e
+
+      known_here : (c : Cert) → In c (certs (life_in p i)) → Known t list c
+      known_here c m = (everywhere p below).lives i c m
+
+      same : (a b : Cert) → In a (certs (life_in p i)) → In b (certs (life_in p i)) → a.gtid ≡ b.gtid → a.place ≡ b.place
+      same a b m n q =
+          let c = (known_here a m).1 in
+          let d = (known_here b n).1 in
+          c.2.place ∙ ap (λ (u : law.Cert). u.place) (distinct c.0 d.0 c.1 d.1 (sym c.2.gtid ∙ q ∙ d.2.gtid)) ∙ sym d.2.place
+
+      new : has (executed (life_in p i)) y.cert.gtid ≡ false
+      new = commit_new t i [] (life_in p i) g y h.descends (λ c m. (known_here c m).0.0) same set
+
+      complete : (d : law.Cert) → Mem d (law.certified t list) → (gtid_eq g d.gtid ≡ true) ⊎ (has (executed (life_in p i)) d.gtid ≡ true) → (has (stored (life_in p i)).executed d.gtid ≡ true) ⊎ ((c : Cert) × In c (certs (life_in p i)) × Alike c d)
+      complete d m (inr z) = h.complete d m z
+      complete d m (inl z) =
+          let c = (known_here y.cert here).1 in
+          let s : c.0 ≡ d = distinct c.0 d c.1 m (sym c.2.gtid ∙ y.is_it ∙ gtid_eq_same g d.gtid z) in
+          inr (y.cert, here, subst (Alike y.cert) s c.2)
