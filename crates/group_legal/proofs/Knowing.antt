@@ -2,7 +2,7 @@
 use Rattle.std.proofs.Common.{◌≡◌, ◌⊎◌, inl, inr, ℕ, suc, ◌≤◌, ◌<◌, Bool, true, false, not, ◌&&◌, ◌||◌, Option, Some, None, List, [], ◌∷◌, ◌++◌, refl, sym, ap, subst, ◌∙◌, length, arith}
 use Rattle.std.specs.Prelude.{filter, map, reverse, nat_le, ◌==◌}
 use Rattle.std.proofs.lemmas.List.{reverse-append}
-use Rattle.std.proofs.lemmas.Bool.{false≢true, cases_Bool, or_cases, or_right, eqb-true, leb-true, le-leb}
+use Rattle.std.proofs.lemmas.Bool.{false≢true, cases_Bool, or_cases, or_right, not-true, leb-true, le-leb}
 use Rattle.gr_ids.specs.Names.{inc_eq, gtid_eq, bytes_eq}
 use Rattle.gr_ids.specs.declared.names.Inc.{Inc}
 use Rattle.gr_ids.specs.declared.names.Gtid.{Gtid}
@@ -33,7 +33,7 @@ use Rattle.group_runs.specs.Runs.{IsSetup, is_founder, running_in, stored_after,
 use Rattle.group_runs.specs.Servers.{IsWritten, AllWritten, OfServers}
 use Rattle.group_order.specs.OneLog.{IsReady, GivenBy, TakenAs, Follows, OneLogOf}
 use Rattle.group_order.proofs.Nexts.{past_self, past_of, did_past, done_at}
-use Rattle.group_order.proofs.Shapes.{Shape, shapes, one_more, takes_after}
+use Rattle.group_order.proofs.Shapes.{Shape, Asks, shapes, one_more}
 use Rattle.group_order.proofs.Spans.{enters_waits}
 use Rattle.group_laws.specs.Lists as listing
 use Rattle.group_laws.specs.Lists.{Mem}
@@ -54,13 +54,14 @@ use Rattle.group_lawful.proofs.Lives.{lived}
 use Rattle.group_lawful.proofs.Opens.{in_filter, in_reverse, in_end, in_pending, unready}
 use Rattle.group_lawful.proofs.Lawfuls.{Ascends, ascends_filter, commit_new}
 use Rattle.group_lawful.proofs.Given.{cert_place, cert_within}
+use Rattle.group_lawful.proofs.Known.{executed_stays, reverse_in}
 use Rattle.group_laws.proofs.Acks.{upto_is_past}
 use Rattle.group_legal.specs.Bases.{list_of, base_in, TakesOf, JudgesAs}
 use Rattle.group_legal.specs.Ranges.{HasSmallNumbers}
 use Rattle.group_legal.proofs.Scanned.{scanned}
 use Rattle.group_legal.proofs.Told.{Spelled}
-use Rattle.group_legal.proofs.Owners.{HasNumbers, SetsAt, sets_at, written_past}
-use Rattle.group_legal.proofs.Sorted.{Apart, NoTwice, all_ascends, all_first, all_second}
+use Rattle.group_legal.proofs.Owners.{some_none, HasNumbers, SetsAt, sets_at, written_past}
+use Rattle.group_legal.proofs.Sorted.{Apart, NoTwice, in_all, all_ascends, all_first, all_second}
 use Rattle.group_legal.proofs.Stocks.{Readable, StockOf, CommitsOnce, CertsOf, filter_in, in_first, in_second, in_either, stopped}
 use Rattle.group_legal.proofs.Carried.{as_given, given_back, in_map, map_in, in_known, CarriedAt}
 use Rattle.group_legal.proofs.Listed.{Known, given_gtid, fine_at, ready_took, judged_took, known_at}
@@ -446,3 +447,284 @@ module _ (t : Setup) (setup : IsSetup t) (w : Past) (x : OneLogOf t w) (done : A
           let c = (known_here y.cert here).1 in
           let s : c.0 ≡ d = distinct c.0 d c.1 m (sym c.2.gtid ∙ y.is_it ∙ gtid_eq_same g d.gtid z) in
           inr (y.cert, here, subst (Alike y.cert) s c.2)
+
+  -- ---- the beginning
+
+  starts_known : (p : Past) (i : Inc) (y : Stored) → IsDone t p i (Starts y) → KnownAt t list p → LifeKnows t list i (Starts y ∷ life_in p i)
+  starts_known p i y h b = subst (λ l. LifeKnows t list i (Starts y ∷ l)) (sym h.1) (record {
+    complete = λ d m e. inl e;
+    reached = λ r. absurd (unready_yet r);
+    descends = tt;
+    below = λ c m. absurd m;
+    had = λ r. absurd (unready_yet r);
+    apart = λ c m. absurd m;
+    once = tt;
+    stays = λ g e. e;
+    stock = subst (StockOf t list) (sym h.3) (b.stocks i.server);
+  })
+    where
+      unready_yet : (is_founder t i ≡ true) ⊎ (false ≡ true) → ⊥
+      unready_yet (inl f) = false≢true (sym h.2 ∙ f)
+      unready_yet (inr f) = false≢true f
+
+  -- a Welcome comes to one that has no certified transaction, and isn't ready
+  enters_known : (p : Past) (i : Inc) (u : Welcome) → IsDone t p i (Enters u) → AllDid (IsDone t) p → LifeKnows t list i (life_in p i) → LifeKnows t list i (Enters u ∷ life_in p i)
+  enters_known p i u h all k = record {
+    complete = k.complete;
+    reached = λ r. absurd (unready_yet r);
+    descends = k.descends;
+    below = λ c m. absurd (subst (In c) none m);
+    had = λ r. absurd (unready_yet r);
+    apart = k.apart;
+    once = k.once;
+    stays = k.stays;
+    stock = k.stock;
+  }
+    where
+      shape : Shape t i (life_in p i)
+      shape = shapes t p all i
+
+      none : certs (life_in p i) ≡ []
+      none = (unready t i [] (life_in p i) (enters_waits t p i u h shape).slots (enters_waits t p i u h shape).give).0
+
+      unready_yet : (is_founder t i ≡ true) ⊎ (has_give (life_in p i) ≡ true) → ⊥
+      unready_yet (inl f) = some_none (((one_more t p i (Enters u) h shape).founder f).entered)
+      unready_yet (inr f) = false≢true (sym (enters_waits t p i u h shape).give ∙ f)
+
+  -- ---- one that is ready stays so, and goes on
+
+  abbrev Went : Past → Past → Inc → Type 0
+  Went q p i = IsReady t i (life_in p i) × (taken (life_in q i) ≤ taken (life_in p i))
+
+  went_did : (q p : Past) (i : Inc) (d : Did) → IsPast (Does i d ∷ p) v → AllDid (IsDone t) p → Went q p i → IsReady t i (d ∷ life_in p i) × (taken (life_in q i) ≤ taken (d ∷ life_in p i))
+  went_did q p i (Took e) k all h =
+      let place = (judged_took t setup w x done spelled small v v_past judges p i e k).0.taking.0.0 in
+      let z = h.1 in
+      (h.0, omega (arith, z, place))
+  went_did q p i (Enters u) k all h = absurd (by h.0)
+    where
+      is_done : IsDone t p i (Enters u)
+      is_done = done_at (IsDone t) w p i (Enters u) done (in_w (Does i (Enters u) ∷ p) k)
+
+      by : (is_founder t i ≡ true) ⊎ (has_give (life_in p i) ≡ true) → ⊥
+      by (inl f) = some_none (((one_more t p i (Enters u) is_done (shapes t p all i)).founder f).entered)
+      by (inr f) = false≢true (sym (enters_waits t p i u is_done (shapes t p all i)).give ∙ f)
+  went_did q p i (Restores g cs) k all h = (inr refl, h.1)
+  went_did q p i (Starts x) k all h = h
+  went_did q p i (Came (Hears m)) k all h = h
+  went_did q p i (Came Ticks) k all h = h
+  went_did q p i (Came (Works z y)) k all h = h
+  went_did q p i (Came (Calls z y)) k all h = h
+  went_did q p i (Came (Operates z)) k all h = h
+  went_did q p i (Skips u v) k all h = h
+  went_did q p i (Gave n j) k all h = h
+  went_did q p i (Replied r) k all h = h
+  went_did q p i AskFails k all h = h
+  went_did q p i Founds k all h = h
+  went_did q p i (Done m) k all h = h
+  went_did q p i (Begun u y z) k all h = h
+  went_did q p i (Changed u z) k all h = h
+  went_did q p i (Called u y z) k all h = h
+  went_did q p i (AsksCommit u y) k all h = h
+  went_did q p i (Ends u) k all h = h
+  went_did q p i (Made u y) k all h = h
+  went_did q p i (Answered u y) k all h = h
+  went_did q p i (Is y z) k all h = h
+  went_did q p i (Committed u) k all h = h
+
+  went : (q p : Past) (i : Inc) → IsPast q p → IsPast p v → AllDid (IsDone t) p → IsReady t i (life_in q i) → Went q p i
+  went q [] i h k all r = (subst (λ y. IsReady t i (life_in y i)) h r, subst (λ y. taken (life_in q i) ≤ taken (life_in y i)) h (omega arith))
+  went q (Writes n y ∷ p) i (inl e) k all r = (subst (λ z. IsReady t i (life_in z i)) e r, subst (λ z. taken (life_in q i) ≤ taken (life_in z i)) e (omega arith))
+  went q (Halts n ∷ p) i (inl e) k all r = (subst (λ z. IsReady t i (life_in z i)) e r, subst (λ z. taken (life_in q i) ≤ taken (life_in z i)) e (omega arith))
+  went q (Does j d ∷ p) i (inl e) k all r = (subst (λ z. IsReady t i (life_in z i)) e r, subst (λ z. taken (life_in q i) ≤ taken (life_in z i)) e (omega arith))
+  went q (Writes n y ∷ p) i (inr h) k all r = went q p i h (past_of (Writes n y ∷ p) p v k (inr (past_self p))) all r
+  went q (Halts n ∷ p) i (inr h) k all r = went q p i h (past_of (Halts n ∷ p) p v k (inr (past_self p))) all r
+  went q (Does j d ∷ p) i (inr h) k all r = go (inc_eq j i) refl (went q p i h (past_of (Does j d ∷ p) p v k (inr (past_self p))) all.1 r)
+    where
+      go : (b : Bool) → inc_eq j i ≡ b → Went q p i → IsReady t i (elim b [ true ↦ d ∷ life_in p i | false ↦ life_in p i ]) × (taken (life_in q i) ≤ taken (elim b [ true ↦ d ∷ life_in p i | false ↦ life_in p i ]))
+      go false e z = z
+      go true e z = went_did q p i d (subst (λ y. IsPast (Does y d ∷ p) v) (inc_is j i e) k) all.1 z
+
+  -- ---- a Give
+
+  module _ (p : Past) (i : Inc) (g : Give) (cs : List Cert) (k : IsPast (Does i (Restores g cs) ∷ p) v) (before : KnownBefore p) where
+    abbrev l : Life
+    l = life_in p i
+
+    below_v : IsPast p v
+    below_v = past_of (Does i (Restores g cs) ∷ p) p v k (inr (past_self p))
+
+    all_p : AllDid (IsDone t) p
+    all_p = did_past (IsDone t) w p done (in_w p below_v)
+
+    abbrev f : GivenBy t p i g cs
+    f = x.given p i g cs (in_w (Does i (Restores g cs) ∷ p) k)
+
+    sent_v : IsPast f.sent v
+    sent_v = past_of p f.sent v below_v f.sent_before
+
+    abbrev giver : Life
+    giver = life_in f.sent f.giver
+
+    giver_knows : LifeKnows t list f.giver (life_in f.sent f.giver)
+    giver_knows = (before f.sent f.sent_before).lives f.giver
+
+    -- what the giver knew then up to the Add, and what of it the joiner lacked
+    abbrev up : List Cert
+    up = filter (λ c. nat_le c.place f.add.place) (known (life_in f.sent f.giver))
+
+    abbrev lacked : List Cert
+    lacked = filter (λ c. not (has (executed (life_in f.asked i)) c.gtid)) up
+
+    giver_has : (c : Cert) → In c (known (life_in f.sent f.giver)) → Known t list c
+    giver_has c m = elim (in_known (life_in f.sent f.giver) c m) [ inl n ↦ (everywhere f.sent sent_v).had f.giver c n | inr n ↦ (everywhere f.sent sent_v).lives f.giver c n ]
+
+    up_has : (c : Cert) → In c up → Known t list c × (c.place ≤ f.add.place)
+    up_has c m = let r = in_filter (λ (c : Cert). nat_le c.place f.add.place) c (known (life_in f.sent f.giver)) m in (giver_has c r.0, leb-true c.place f.add.place r.1)
+
+    lacked_has : (c : Cert) → In c lacked → In c up × (has (executed (life_in f.asked i)) c.gtid ≡ false)
+    lacked_has c m = let r = in_filter (λ (c : Cert). not (has (executed (life_in f.asked i)) c.gtid)) c up m in (r.0, not-true (has (executed (life_in f.asked i)) c.gtid) r.1)
+
+    told : cs ≡ map as_given lacked
+    told = f.certs ∙ ap (λ (y : Give). certs_given y.txns) f.give ∙ given_back lacked (λ c m. (up_has c (lacked_has c m).0).0.0.1)
+
+    -- one of those that the joiner then holds
+    given_one : (c : Cert) → In c (reverse cs) → (y : Cert) × In y lacked × (as_given y ≡ c)
+    given_one c m = in_map lacked c (subst (In c) told (in_reverse c cs m))
+
+    -- the joiner had nothing yet, and stands at its Add
+    joined : is_founder t i ≡ false
+    joined = elim (cases_Bool (is_founder t i)) [
+      | inl y ↦ absurd (some_none (sym f.entered ∙ ((shapes t p all_p i).founder y).entered))
+      | inr y ↦ y
+    ]
+
+    asks : Asks (life_in p i) f.welcome
+    asks = ((shapes t p all_p i).joiner joined).ungiven f.welcome f.entered f.ungiven
+
+    place : f.add.place ≡ taken (life_in p i)
+    place = f.place ∙ sym asks.place
+
+    none : certs (life_in p i) ≡ []
+    none = (unready t i [] (life_in p i) asks.slots f.ungiven).0
+
+    -- the giver knew each certified transaction up to the Add
+    reach : Went (Does f.giver (Took f.add) ∷ f.before) f.sent f.giver
+    reach = went (Does f.giver (Took f.add) ∷ f.before) f.sent f.giver f.earlier sent_v (did_past (IsDone t) w f.sent done (in_w f.sent sent_v)) (subst (IsReady t f.giver) (sym here) was)
+      where
+        here : life_in (Does f.giver (Took f.add) ∷ f.before) f.giver ≡ Took f.add ∷ life_in f.before f.giver
+        here = ap (λ b. elim b [ true ↦ Took f.add ∷ life_in f.before f.giver | false ↦ life_in f.before f.giver ]) (inc_same f.giver)
+
+        was : IsReady t f.giver (life_in f.before f.giver)
+        was = ready_took t setup w x done spelled small f.before f.giver f.add (in_w (Does f.giver (Took f.add) ∷ f.before) (past_of f.sent (Does f.giver (Took f.add) ∷ f.before) v sent_v f.earlier))
+
+    far : f.add.place ≤ taken (life_in f.sent f.giver)
+    far = subst (λ l. taken l ≤ taken (life_in f.sent f.giver)) (ap (λ b. elim b [ true ↦ Took f.add ∷ life_in f.before f.giver | false ↦ life_in f.before f.giver ]) (inc_same f.giver)) reach.1
+
+    giver_all : (d : law.Cert) → Mem d (law.certified t list) → d.place ≤ f.add.place → (c : Cert) × In c (known (life_in f.sent f.giver)) × Alike c d
+    giver_all d m n = elim (giver_knows.reached reach.0 d m (let z = far in omega (arith, n, z))) [
+      | inl b ↦ (b.0, all_second (all_in [] (stored (life_in f.sent f.giver)).committed) (certs (life_in f.sent f.giver)) b.0 b.1, b.2)
+      | inr e ↦ elim (giver_knows.complete d m e) [
+        | inl y ↦ (let r = giver_knows.stock.known d m y in
+            (r.0, all_first (all_in [] (stored (life_in f.sent f.giver)).committed) (certs (life_in f.sent f.giver)) r.0 (all_second [] (stored (life_in f.sent f.giver)).committed r.0 r.1), r.2))
+        | inr b ↦ (b.0, all_second (all_in [] (stored (life_in f.sent f.giver)).committed) (certs (life_in f.sent f.giver)) b.0 b.1, b.2)
+      ]
+    ]
+
+    asked_v : IsPast f.asked v
+    asked_v = past_of p f.asked v below_v f.asked_before
+
+    -- what the joiner had executed when it asked, it has now
+    asked_stays : (u : Gtid) → has (executed (life_in f.asked i)) u ≡ true → has (executed (life_in p i)) u ≡ true
+    asked_stays u e = executed_stays t i [] (life_in p i) (life_in f.asked i) u (past_lives f.asked p i f.asked_before) (lived t p all_p i) ((sets p (in_w p below_v)).lives i) e
+
+    lacked_is : (c : Cert) → In c (known (life_in f.sent f.giver)) → c.place ≤ f.add.place → has (executed (life_in f.asked i)) c.gtid ≡ false → In c lacked
+    lacked_is c m n e = filter_in (λ (y : Cert). not (has (executed (life_in f.asked i)) y.gtid)) c up (filter_in (λ (y : Cert). nat_le y.place f.add.place) c (known (life_in f.sent f.giver)) m (le-leb c.place f.add.place n)) (ap not e)
+
+    reached : (d : law.Cert) → Mem d (law.certified t list) → d.place ≤ taken (life_in p i) → ((c : Cert) × In c (reverse cs) × Alike c d) ⊎ (has (executed (life_in p i)) d.gtid ≡ true)
+    reached d m n = go (giver_all d m (let z = place in omega (arith, n, z)))
+      where
+        go : (c : Cert) × In c (known (life_in f.sent f.giver)) × Alike c d → ((c : Cert) × In c (reverse cs) × Alike c d) ⊎ (has (executed (life_in p i)) d.gtid ≡ true)
+        go c = elim (cases_Bool (has (executed (life_in f.asked i)) (c.0).gtid)) [
+          | inl e ↦ inr (ap (has (executed (life_in p i))) (sym c.2.gtid) ∙ asked_stays (c.0).gtid e)
+          | inr e ↦ (let y = c.2.place in
+              let z = place in
+              let there = map_in lacked c.0 (lacked_is c.0 c.1 (omega (arith, n, y, z)) e) in
+              inl (as_given c.0, reverse_in t i [] (as_given c.0) cs (subst (In (as_given c.0)) (sym told) there), record { place = c.2.place; origin = c.2.origin; number = inr refl; gtid = c.2.gtid; txn = c.2.txn }))
+        ]
+
+    -- each that the giver knew stands once, by place
+    known_ascends : Ascends (known (life_in f.sent f.giver))
+    known_ascends = all_ascends (all_in [] (stored (life_in f.sent f.giver)).committed) (certs (life_in f.sent f.giver))
+        (all_ascends [] (stored (life_in f.sent f.giver)).committed tt giver_knows.stock.twice (λ c m y n. absurd n))
+        (descends_apart (certs (life_in f.sent f.giver)) giver_knows.descends) (λ c m. unlike c m)
+      where
+        unlike : (c : Cert) → In c (certs (life_in f.sent f.giver)) → Apart c (all_in [] (stored (life_in f.sent f.giver)).committed)
+        unlike c m y n e = elim (in_all [] (stored (life_in f.sent f.giver)).committed y n) [ inl z ↦ absurd z | inr z ↦ giver_knows.apart c m y z e ]
+
+    lacked_ascends : Ascends lacked
+    lacked_ascends = ascends_filter (λ (c : Cert). not (has (executed (life_in f.asked i)) c.gtid)) up (ascends_filter (λ (c : Cert). nat_le c.place f.add.place) (known (life_in f.sent f.giver)) known_ascends)
+
+    own_known : LifeKnows t list i (life_in p i)
+    own_known = (before p (past_self p)).lives i
+
+    -- all that it has committed was certified before its Add
+    had : (c : Cert) → In c (stored (life_in p i)).committed → c.place ≤ taken (life_in p i)
+    had c m = go (of_gtids up c.gtid numbered certified)
+      where
+        numbered : (y : Cert) → In y up → IsUuid y.gtid.source × IsNumber y.gtid.number
+        numbered y n = (up_has y n).0.0.0
+
+        is_up : g.certified ≡ gtids_of up
+        is_up = ap (λ (y : Give). y.certified) f.give
+
+        certified : has (gtids_of up) c.gtid ≡ true
+        certified = none_extra (executed (life_in p i)) (gtids_of up) c.gtid (canonical (life_in p i) ((sets p (in_w p below_v)).lives i)) (gtids_canonical up numbered)
+            (ap (minus (executed (life_in p i))) (sym is_up) ∙ f.no_extra) (own_known.stays c.gtid (own_known.stock.done c m))
+
+        go : (y : Cert) × In y up × (y.gtid ≡ c.gtid) → c.place ≤ taken (life_in p i)
+        go y =
+            let a = up_has y.0 y.1 in
+            let b = a.0.1 in
+            let d = ((everywhere p below_v).had i c m).1 in
+            let same : b.0 ≡ d.0 = distinct b.0 d.0 b.1 d.1 (sym b.2.gtid ∙ y.2 ∙ d.2.gtid) in
+            let e : (y.0).place ≡ c.place = b.2.place ∙ ap (λ (u : law.Cert). u.place) same ∙ sym d.2.place in
+            let n = a.1 in
+            let z = place in
+            omega (arith, e, n, z)
+
+    -- and isn't given again
+    apart : (c : Cert) → In c (reverse cs) → Apart c (stored (life_in p i)).committed
+    apart c m z n e =
+        let r = given_one c m in
+        let y = lacked_has r.0 r.1 in
+        let a = (up_has r.0 y.0).0.1 in
+        let b = ((everywhere p below_v).had i z n).1 in
+        let q : z.place ≡ (r.0).place = e ∙ ap (λ (u : Cert). u.place) (sym r.2) in
+        let same : b.0 ≡ a.0 = same_place t list b.0 a.0 b.1 a.1 (sym b.2.place ∙ q ∙ a.2.place) in
+        let one : z.gtid ≡ (r.0).gtid = b.2.gtid ∙ ap (λ (u : law.Cert). u.gtid) same ∙ sym a.2.gtid in
+        absurd (false≢true (sym y.1 ∙ ap (has (executed (life_in f.asked i))) (sym one) ∙ asked_has z.gtid (own_known.stock.done z n)))
+      where
+        -- it had begun when it asked
+        began : stored (life_in f.asked i) ≡ stored (life_in p i)
+        began = stored_stays t i (life_in p i) (life_in f.asked i) (past_lives f.asked p i f.asked_before) (lived t p all_p i) (recovering_began (life_in f.asked i) f.asking)
+
+        asked_has : (u : Gtid) → has (stored (life_in p i)).executed u ≡ true → has (executed (life_in f.asked i)) u ≡ true
+        asked_has u h = ((before f.asked f.asked_before).lives i).stays u (ap (λ (y : Stored). has y.executed u) began ∙ h)
+
+    restores_known : LifeKnows t list i (Restores g cs ∷ life_in p i)
+    restores_known = record {
+      complete = λ d m e. elim (own_known.complete d m e) [ inl a ↦ inl a | inr b ↦ absurd (subst (In b.0) none b.1) ];
+      reached = λ r. reached;
+      descends = descends_reverse cs (subst Ascends (sym told) (ascends_given lacked lacked_ascends));
+      below = λ c m. (let r = given_one c m in
+          let n = (up_has r.0 (lacked_has r.0 r.1).0).1 in
+          let q : (r.0).place ≡ c.place = ap (λ (u : Cert). u.place) r.2 in
+          let z = place in
+          omega (arith, n, q, z));
+      had = λ r. had;
+      apart = apart;
+      once = own_known.once;
+      stays = own_known.stays;
+      stock = own_known.stock;
+    }

@@ -32,7 +32,7 @@ use Rattle.group_lives.specs.Lives.{placed, made_as, sync_number, asking, did_of
 use Rattle.group_lives.specs.Sound.{HasSets}
 use Rattle.group_lives.proofs.Sets.{canonical}
 
-some_none : {A : Type 0} {x : A} → Some x ≡ None → ⊥
+pub some_none : {A : Type 0} {x : A} → Some x ≡ None → ⊥
 some_none e = absurd (cc e)
 
 some_is : {A : Type 0} {x y : A} → Some x ≡ Some y → x ≡ y
