@@ -1,14 +1,12 @@
 -- Every run: one log, and each incarnation follows it.
-use Rattle.std.proofs.Common.{eqb, leb, map, ◌≡◌, ◌⊎◌, inl, inr, ℕ, suc, ◌+◌, ◌≤◌, ◌<◌, Bool, true, false, Option, Some, None, List, [], ◌∷◌, append-nil, refl, sym, ap, subst, ◌∙◌, length, take, arith}
-use Rattle.std.specs.Prelude.{◌==◌, ◌&&◌, ◌||◌, not}
-use Rattle.std.specs.List.{list_any}
+use Rattle.std.proofs.Common.{leb, map, ◌≡◌, ◌⊎◌, inl, inr, ℕ, suc, ◌≤◌, ◌<◌, Bool, true, false, Option, Some, None, List, [], ◌∷◌, append-nil, refl, sym, ap, subst, ◌∙◌, length, take, arith}
+use Rattle.std.specs.Prelude.{not}
 use Rattle.std.proofs.lemmas.Bool.{false≢true, cases_Bool, and_parts, eqb-true, leb-true, leb-false}
 use Rattle.gr_ids.specs.Names.{inc_eq, is_inc}
 use Rattle.gr_ids.specs.declared.names.Inc.{Inc}
 use Rattle.slot_values.specs.declared.value.Value.{Value}
 use Rattle.slot_values.specs.declared.value.What.TheVariants.{Noop}
 use Rattle.slot_values.specs.Values.{is_noop}
-use Rattle.slot_values.specs.declared.member.Member.{Member}
 use Rattle.slot_values.specs.declared.kept.Kept.{Kept}
 use Rattle.slot_values.specs.declared.kept.Kept.TheVariants.{At as KeptAt, Skipped as IsSkipped}
 use Rattle.slot_values.specs.Log.{Reading, is_next, is_kept, became, after}
