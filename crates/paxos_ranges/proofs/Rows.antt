@@ -13,7 +13,7 @@ use Rattle.slot_values.specs.Log.{Group, Turns, first_turns, turn, last_in, forg
 use Rattle.slot_values.specs.Turns.{resumed}
 use Rattle.slot_values.specs.declared.value.Value.{Value}
 use Rattle.slot_values.specs.declared.value.Vote.{Vote}
-use Rattle.paxos_forms.specs.Messages.{IsMessage, IsWire, IsNextSlot}
+use Rattle.paxos_forms.specs.Messages.{IsMessage, IsWire, IsHeld, IsNextSlot}
 use Rattle.paxos_forms.specs.Welcomes.{IsWelcome}
 use Rattle.paxos_forms.specs.declared.message.Message.{Message}
 use Rattle.paxos_forms.specs.declared.message.Wire.{Wire}
@@ -48,7 +48,7 @@ use Rattle.paxos_ranges.proofs.Known.{Learnt, advances, learns_value, learnt_up,
 -- A message can be spelt under the condition C.
 module _ (C : Type 0) where
   abbrev IsSpelt : Message → Type 0
-  IsSpelt m = C → IsMessage m
+  IsSpelt m = C → IsMessage m × IsHeld m.wire
 
   record Fits (e : Effect) : Type 0 where
     node : IsInRange e.node
@@ -72,20 +72,20 @@ module _ (C : Type 0) where
 
   -- ---- messages
 
-  spelt : (n : Node) (i : Inc) (y : Wire) → IsInRange n → IsInc i → IsWire y → IsSpelt (message n i y)
-  spelt n i y k j w = λ c. record { from = k.me; to = j; wire = w }
+  spelt : (n : Node) (i : Inc) (y : Wire) → IsInRange n → IsInc i → IsWire y × IsHeld y → IsSpelt (message n i y)
+  spelt n i y k j w = λ c. (record { from = k.me; to = j; wire = w.0 }, w.1)
 
   one_message : (x : Message) → IsSpelt x → (m : Message) → In m (x ∷ []) → IsSpelt m
   one_message x k m h = elim h [ inl e ↦ subst (λ z. IsSpelt z) e k | inr b ↦ absurd b ]
 
-  to_others_spelt : (n : Node) (is : List Inc) (y : Wire) → IsInRange n → ((i : Inc) → In i is → IsInc i × IsWire y) → (m : Message) → In m (to_others n is y) → IsSpelt m
+  to_others_spelt : (n : Node) (is : List Inc) (y : Wire) → IsInRange n → ((i : Inc) → In i is → IsInc i × IsWire y × IsHeld y) → (m : Message) → In m (to_others n is y) → IsSpelt m
   to_others_spelt n is y k w m h =
       let r = in_map (λ i. message n i y) (others n.me is) m h in
       let j = w r.0 (in_filter (λ i. not (inc_eq n.me i)) is r.0 r.1) in
-      subst (λ z. IsSpelt z) r.2 (spelt n r.0 y k j.0 j.1)
+      subst (λ z. IsSpelt z) r.2 (spelt n r.0 y k j.0 (j.1, j.2))
 
   gone_spelt : (n : Node) (i : Inc) → IsInRange n → IsInc i → (m : Message) → In m (gone_to n i) → IsSpelt m
-  gone_spelt n i k j = cond_both (has_inc (ever_by n.turns) i && not (has_inc (members_by n.turns) i)) (message n i Gone ∷ []) [] (λ ms. (m : Message) → In m ms → IsSpelt m) (λ e. one_message (message n i Gone) (spelt n i Gone k j tt)) (λ e m h. absurd h)
+  gone_spelt n i k j = cond_both (has_inc (ever_by n.turns) i && not (has_inc (members_by n.turns) i)) (message n i Gone ∷ []) [] (λ ms. (m : Message) → In m ms → IsSpelt m) (λ e. one_message (message n i Gone) (spelt n i Gone k j (tt, tt))) (λ e m h. absurd h)
 
   knows : (n : Node) → IsInRange n → Knows n.turns
   knows n k w e = (k.turns w e).1
@@ -125,7 +125,7 @@ module _ (C : Type 0) where
       fits_if (ltb s n.acceptor.low) _ _ (λ e. fits_sends n (gone_to n j) k (gone_spelt n j k i))
       (λ e. fits_if (ballot_lt b n.acceptor.promise) _ _ (λ f. fits_quiet n k)
       (λ f. fits_sends (promises n b) (msg ∷ []) (put_promise n b (inr p) k)
-      (one_message msg (λ c. record { from = k.me; to = i; wire = (p, t, chain_from n.acceptor.votes s None None (omega arith) k.votes, from_shorter n.acceptor.votes s (few c)) }))))
+      (one_message msg (λ c. (record { from = k.me; to = i; wire = (p, t, chain_from n.acceptor.votes s None None (omega arith) k.votes, from_shorter n.acceptor.votes s (few c)) }, tt)))))
 
   fits_accept : (j : Inc) (b : Ballot) (t : ℕ) (v : Value) (n : Node) → IsInc j → IsBallot b → IsSlot t → IsValue v → IsInRange n → Fits (hear_accept j b t v n)
   unfolding hear_accept
@@ -134,7 +134,7 @@ module _ (C : Type 0) where
       let msg : Message = message n j (Accepted b t) in
       fits_if (ltb t n.acceptor.low) _ _ (λ e. fits_sends n (gone_to n j) k (gone_spelt n j k i))
       (λ e. fits_if (ballot_lt b n.acceptor.promise) _ _ (λ f. fits_quiet n k)
-      (λ f. record { node = put_votes (promises n b) x s p q (put_promise n b (inr p) k); sent = one_message msg (spelt n j (Accepted b t) k i (p, s)) }))
+      (λ f. record { node = put_votes (promises n b) x s p q (put_promise n b (inr p) k); sent = one_message msg (spelt n j (Accepted b t) k i ((p, s), tt)) }))
 
   -- ---- Learn and Accepted
 
@@ -155,7 +155,7 @@ module _ (C : Type 0) where
           let ok : AreIncs to = union_incs (config_here m.turns p.slot) (members_by m.turns) (config_incs m.turns (knows m mk) p.slot) (members_incs m.turns (knows m mk)) in
           fits_if (is_decided n.learner p.slot) _ _ (λ e. fits_quiet n k)
           (λ e. fits_if (has_majority n.turns q) _ _
-          (λ e. fits_sends (learns m p.slot p.value) (to_others m to (Learn p.slot p.value)) (put_learnt m p.slot p.value pv.0 pv.1 mk) (to_others_spelt m to (Learn p.slot p.value) mk (λ i h. (ok i h, (pv.0, pv.1)))))
+          (λ e. fits_sends (learns m p.slot p.value) (to_others m to (Learn p.slot p.value)) (put_learnt m p.slot p.value pv.0 pv.1 mk) (to_others_spelt m to (Learn p.slot p.value) mk (λ i h. (ok i h, (pv.0, pv.1), tt))))
           (λ e. fits_quiet m mk))
 
       go : (o : Option Leader) → n.leader ≡ o → Fits (lead_accepted j b t n o)
@@ -173,7 +173,7 @@ module _ (C : Type 0) where
       let y : Wire = Accept l.ballot c.slot c.value in
       let e : Effect = record { node = m; sent = to_others n (config_here n.turns c.slot) y; cast = x ∷ []; took = [] } in
       let mk : IsInRange m = put_leader (votes n x) l2 (record { ballot = o.ballot; reported = o.reported; proposals = puts_proposal l q (h.slot, h.value) o; offers = h.offers }) (put_votes n x h.slot o.ballot h.value k) in
-      fits_also e (hear_accepted n.me l.ballot c.slot) (record { node = mk; sent = to_others_spelt n (config_here n.turns c.slot) y k (λ i z. (config_incs n.turns (knows n k) c.slot i z, (o.ballot, h.slot, h.value))) }) (λ z. fits_accepted n.me l.ballot c.slot m z)
+      fits_also e (hear_accepted n.me l.ballot c.slot) (record { node = mk; sent = to_others_spelt n (config_here n.turns c.slot) y k (λ i z. (config_incs n.turns (knows n k) c.slot i z, (o.ballot, h.slot, h.value), tt)) }) (λ z. fits_accepted n.me l.ballot c.slot m z)
 
   fits_propose_one : (n : Node) → IsInRange n → Fits (propose_one n)
   unfolding propose_one
@@ -214,7 +214,7 @@ module _ (C : Type 0) where
       (λ e m h.
       let r = in_map (λ v. message n n.acceptor.promise.inc (Offer v)) vs m h in
       let j = offered_to n.acceptor.promise k.promise (or_parts (eqb n.acceptor.promise.round 0) (inc_eq n.acceptor.promise.inc n.me) e).0 in
-      subst (λ z. IsSpelt z) r.2 (spelt n n.acceptor.promise.inc (Offer r.0) k j (p r.0 r.1)))
+      subst (λ z. IsSpelt z) r.2 (spelt n n.acceptor.promise.inc (Offer r.0) k j (p r.0 r.1, tt)))
 
   fits_offers : (vs : List Value) (n : Node) (o : Option Leader) → n.leader ≡ o → AreValues vs → IsInRange n → Fits (offers vs n o)
   fits_offers vs n None e p k = fits_sends n (offers_out n vs) k (out_spelt n vs p k)
@@ -278,7 +278,7 @@ module _ (C : Type 0) where
           } in
           let mk : IsInRange m = record { me = k.me; promise = inr ballot; votes = k.votes; decided = k.decided; next = k.next; turns = k.turns; leader = λ y e. let q : l ≡ y = cc in subst (λ z. LeadsInRange z) q lk; own = k.own } in
           let ok : AreIncs (audience n) = union_incs (members_by n.turns) (reach n n.horizon n.learner.next) (members_incs n.turns (knows n k)) (reach_incs n (knows n k) n.horizon n.learner.next) in
-          fits_sends m (to_others n (audience n) (Prepare (next_ballot n) n.learner.next)) mk (to_others_spelt n (audience n) (Prepare (next_ballot n) n.learner.next) k (λ i h. (ok i h, (ballot, (begun, k.next)))))
+          fits_sends m (to_others n (audience n) (Prepare (next_ballot n) n.learner.next)) mk (to_others_spelt n (audience n) (Prepare (next_ballot n) n.learner.next) k (λ i h. (ok i h, (ballot, (begun, k.next)), tt)))
 
   -- ---- Alive, and the tick
 
@@ -287,7 +287,7 @@ module _ (C : Type 0) where
       let test = (λ (e : Entry). leb c e.slot && (ltb e.slot (c + 10) && ltb e.slot n.learner.next)) in
       let r = in_map (λ (e : Entry). message n j (Learn e.slot e.value)) (filter test n.learner.decided) m h in
       let d = k.decided r.0 (in_filter test n.learner.decided r.0 r.1) in
-      subst (λ z. IsSpelt z) r.2 (spelt n j (Learn (r.0).slot (r.0).value) k i (d.0, d.1))
+      subst (λ z. IsSpelt z) r.2 (spelt n j (Learn (r.0).slot (r.0).value) k i ((d.0, d.1), tt))
 
   fits_alive : (j : Inc) (c : ℕ) (n : Node) → IsInc j → IsInRange n → Fits (hear_alive j c n)
   unfolding hear_alive
@@ -302,14 +302,14 @@ module _ (C : Type 0) where
       let p = o.proposals r.0 r.1 in
       let y : Wire = Accept l.ballot (r.0).slot (r.0).value in
       cond_both (is_decided n.learner (r.0).slot) [] (to_others n (unaccepted n.turns r.0) y) (λ ms. In m ms → IsSpelt m) (λ e q. absurd q)
-      (λ e q. to_others_spelt n (unaccepted n.turns r.0) y k (λ i z. (config_incs n.turns (knows n k) (r.0).slot i (in_filter (λ i. not (has_inc (r.0).accepted i)) (config_here n.turns (r.0).slot) i z), (o.ballot, p.0, p.1))) m q) r.2
+      (λ e q. to_others_spelt n (unaccepted n.turns r.0) y k (λ i z. (config_incs n.turns (knows n k) (r.0).slot i (in_filter (λ i. not (has_inc (r.0).accepted i)) (config_here n.turns (r.0).slot) i z), (o.ballot, p.0, p.1), tt)) m q) r.2
 
   prepares_spelt : (n : Node) (l : Leader) → IsInRange n → LeadsInRange l → (m : Message) → In m (prepares_again n l) → IsSpelt m
   prepares_spelt n l k o =
       let y : Wire = Prepare l.ballot n.learner.next in
       let to : List Inc = unpromised n.turns l n.horizon n.learner.next in
       cond_both (eqb l.ballot.round 1) [] (to_others n to y) (λ ms. (m : Message) → In m ms → IsSpelt m) (λ e m h. absurd h)
-      (λ e m h. to_others_spelt n to y k (λ i z. (unpromised_incs n.turns (knows n k) l n.horizon n.learner.next i z, (o.ballot, (begun n.turns refl i z, k.next)))) m h)
+      (λ e m h. to_others_spelt n to y k (λ i z. (unpromised_incs n.turns (knows n k) l n.horizon n.learner.next i z, (o.ballot, (begun n.turns refl i z, k.next)), tt)) m h)
     where
       begun : (w : Option Turns) → n.turns ≡ w → (i : Inc) → In i (unpromised n.turns l n.horizon n.learner.next) → 1 ≤ n.learner.next
       begun None e i h = absurd (none_unpromised l n.horizon n.learner.next i (subst (λ w. In i (unpromised w l n.horizon n.learner.next)) e h))
@@ -323,7 +323,7 @@ module _ (C : Type 0) where
   ]
 
   alive_spelt : (n : Node) → IsInRange n → (m : Message) → In m (to_others n (members_by n.turns) (Alive n.learner.next)) → IsSpelt m
-  alive_spelt n k = to_others_spelt n (members_by n.turns) (Alive n.learner.next) k (λ i h. (members_incs n.turns (knows n k) i h, (begun n.turns refl i h, k.next)))
+  alive_spelt n k = to_others_spelt n (members_by n.turns) (Alive n.learner.next) k (λ i h. (members_incs n.turns (knows n k) i h, (begun n.turns refl i h, k.next), tt))
     where
       begun : (w : Option Turns) → n.turns ≡ w → (i : Inc) → In i (members_by n.turns) → 1 ≤ n.learner.next
       begun None e i h = let q : In i [] = subst (λ w. In i (members_by w)) e h in absurd q
@@ -491,7 +491,7 @@ Few n = length n.acceptor.votes ≤ last_u32
 pub step_in_range : (e : PaxosEvent) (n : Node) → IsGiven e → IsInRange n → IsInRange (node_step e n).node
 step_in_range e n p k = (fits_step (Few n) e n (λ c. c) p k).node
 
-pub step_spelt : (e : PaxosEvent) (n : Node) → IsGiven e → IsInRange n → Few n → (m : Message) → In m (node_step e n).sent → IsMessage m
+pub step_spelt : (e : PaxosEvent) (n : Node) → IsGiven e → IsInRange n → Few n → (m : Message) → In m (node_step e n).sent → IsMessage m × IsHeld m.wire
 step_spelt e n p k c m h = (fits_step (Few n) e n (λ c. c) p k).sent m h c
 
 pub take_in_range : (n : Node) → IsInRange n → IsInRange (take n).node

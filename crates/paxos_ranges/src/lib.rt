@@ -6,7 +6,7 @@ ghost use Rattle.gr_ids.specs.declared.names.Inc.{Inc};
 ghost use Rattle.name_forms.specs.Incs.{IsInc};
 ghost use Rattle.slot_values.specs.Log.{Group};
 ghost use Rattle.slot_values.specs.Spelling.{last_u32};
-ghost use Rattle.paxos_forms.specs.Messages.{IsMessage};
+ghost use Rattle.paxos_forms.specs.Messages.{IsMessage, IsHeld};
 ghost use Rattle.paxos_forms.specs.declared.message.Message.{Message};
 ghost use Rattle.node_rules.specs.declared.event.PaxosEvent.{PaxosEvent};
 ghost use Rattle.node_rules.specs.Lists.{In};
@@ -22,6 +22,6 @@ pub fn nodes_stay_in_range()
     ensures joiner { (g : Group) (i : Inc) → IsInc i → IsInRange (joiner g i) }
     ensures step { (e : PaxosEvent) (n : Node) → IsGiven e → IsInRange n → IsInRange (node_step e n).node }
     ensures sent { (e : PaxosEvent) (n : Node) → IsGiven e → IsInRange n → length n.acceptor.votes ≤ last_u32
-        → (m : Message) → In m (node_step e n).sent → IsMessage m }
+        → (m : Message) → In m (node_step e n).sent → IsMessage m × IsHeld m.wire }
     ensures take { (n : Node) → IsInRange n → IsInRange (take n).node }
 {}
