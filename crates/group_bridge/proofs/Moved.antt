@@ -1,7 +1,7 @@
 -- Each step of a member is made of acts of its node, of things left in its history as the rules ask, and of messages that aren't its node's.
 use Rattle.std.proofs.Common.{eq-eqb, eqb, append_assoc, ◌≡◌, ◌⊎◌, inl, inr, ℕ, zero, suc, ◌+◌, ◌-◌, ◌/◌, ◌≤◌, ◌<◌, Bool, true, false, Option, Some, None, List, [], ◌∷◌, ◌++◌, refl, sym, ap, subst, ◌∙◌, arith}
 use Rattle.std.specs.Prelude.{length, reverse, filter, not, ◌&&◌, ◌==◌, nat_le, take, drop, if◌then◌else◌, is_some}
-use Rattle.std.proofs.lemmas.Bool.{false≢true, and_from, and_parts, cases_Bool, eqb-true, leb-true, leb-false, not-true}
+use Rattle.std.proofs.lemmas.Bool.{false≢true, and_parts, cases_Bool, eqb-true, leb-true, leb-false, not-true}
 use Rattle.std.proofs.lemmas.List.{reverse-append}
 use Rattle.gr_ids.specs.Names.{id_eq, inc_eq, is_inc}
 use Rattle.gr_ids.specs.declared.names.Inc.{Inc}

@@ -10,7 +10,6 @@ use Rattle.gr_ids.specs.declared.names.Inc.{Inc}
 use Rattle.slot_values.specs.declared.value.Value.{Value}
 use Rattle.slot_values.specs.declared.value.What.TheVariants.{Noop}
 use Rattle.slot_values.specs.Values.{is_noop}
-use Rattle.slot_values.specs.declared.member.Member.{Member}
 use Rattle.slot_values.specs.declared.kept.Kept.{Kept}
 use Rattle.slot_values.specs.declared.kept.Kept.TheVariants.{At as KeptAt, Skipped as IsSkipped}
 use Rattle.slot_values.specs.Log.{Reading, is_next, is_kept, became, after}
