@@ -5,4 +5,6 @@ pub mod Founders
 pub mod Prefix
 pub mod Told
 pub mod Takers
+pub mod Points
+pub mod Verdicts
 mod Ordered
