@@ -7,4 +7,5 @@ pub mod Told
 pub mod Takers
 pub mod Points
 pub mod Verdicts
+pub mod RowsFit
 mod Ordered
