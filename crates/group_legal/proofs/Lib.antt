@@ -8,4 +8,5 @@ pub mod Takers
 pub mod Points
 pub mod Verdicts
 pub mod RowsFit
+pub mod Failovers
 mod Ordered

@@ -13,7 +13,7 @@ use Rattle.gtid_sets.specs.Sets.{Gtids, has}
 use Rattle.node_rules.specs.Lists.{In}
 use Rattle.node_rules.proofs.Incs.{inc_same}
 use Rattle.group_rules.specs.Events.{Did, Called, Begun, Life, Setup, Cert}
-use Rattle.group_rules.specs.Life.{state, is_up, is_error, is_recovering, certs, has_give}
+use Rattle.group_rules.specs.Life.{state, is_up, is_error, is_recovering, view, certs, has_give}
 use Rattle.group_rules.specs.OneList.{listed}
 use Rattle.group_rules.specs.Sessions.{Call}
 use Rattle.group_rules.specs.Legal.{IsPast, BegunAt}
@@ -27,6 +27,7 @@ use Rattle.group_laws.specs.Lists as listing
 use Rattle.group_laws.specs.Lists.{Mem}
 use Rattle.group_laws.specs.Entries as law
 use Rattle.group_laws.specs.View as seen
+use Rattle.group_laws.specs.Primary as primary
 use Rattle.group_laws.specs.Verdict as decided
 use Rattle.group_laws.specs.Life as lives
 use Rattle.group_laws.specs.World as run
@@ -35,7 +36,8 @@ use Rattle.group_laws.proofs.Lists.{IsPast-self}
 use Rattle.group_lives.specs.Lives.{law_cert, sync_number, did_of, life_of, all_did, run_of}
 use Rattle.group_lives.proofs.Runs.{lives_agree}
 use Rattle.group_lives.proofs.Sets.{executed_agrees}
-use Rattle.group_lives.proofs.Taking.{certs_agree}
+use Rattle.group_lives.proofs.Taking.{certs_agree, views_agree}
+use Rattle.group_lawful.specs.Knows.{Sound, AlwaysSound}
 use Rattle.group_lawful.proofs.States.{StateAs, stand, fallen_is, ready_by, shape_of, stands_so}
 use Rattle.group_lawful.proofs.Sessions.{call_as, calls}
 use Rattle.group_lawful.proofs.Begins.{call_past}
@@ -95,6 +97,12 @@ same_did c d p q (x ∷ l) e (inr a) (inr b) = same_did c d p q l e a b
 abbrev level_in : Did → Level → Level
 level_in (Called s v n) u = v
 level_in d u = u
+
+-- ---- one that takes part
+
+pub sound_at : (t : Setup) (i : Inc) (base : List law.Placed) (l : Life) → AlwaysSound t i base l → IsReady t i l → 0 < length l → Sound t i base l
+sound_at t i base [] o k n = absurd (omega (arith, n))
+sound_at t i base (d ∷ l) o k n = o.0.0.1 k n
 
 -- ---- a begin
 
@@ -168,21 +176,22 @@ module _ (t : Setup) (w : Past) (one : OneLogOf t w) (done : AllDid (IsDone t) w
 
   -- ---- ONLINE by its own marks
 
+  -- one that is ONLINE takes part
+  ready_up : (p : Past) → IsPast p w → (i : Inc) → 1 < length (life_in p i) → is_up (state (life_in p i)) ≡ true → IsReady t i (life_in p i)
+  ready_up p h i b u = ready_by t i (base i) (life_in p i) (shape_of t i (base i) (life_in p i) (r.moments p h i).always b) (or_left (is_up (state (life_in p i))) (is_recovering (state (life_in p i)) && has_give (life_in p i)) u)
+
+  pub sound_up : (p : Past) → IsPast p w → (i : Inc) → 1 < length (life_in p i) → is_up (state (life_in p i)) ≡ true → Sound t i (base i) (life_in p i)
+  sound_up p h i b u = sound_at t i (base i) (life_in p i) (r.moments p h i).always (ready_up p h i b u) (omega (arith, b))
+
   pub online_at : (p : Past) → IsPast p w → (i : Inc) → 1 < length (life_in p i) → is_settled i (life_in p i) ≡ true → is_up (state (life_in p i)) ≡ true → lives.online t i (run.life (run_of base p) i) ≡ true
   online_at p h i b z u =
       ap (lives.online t i) (lives_agree base p i)
-      ∙ and_from (not (list_any lives.is_fall (life_of (base i) l))) (seen.active t (lives.taken (life_of (base i) l)) i)
-      (ap not (fallen_is t i (base i) l m.lived ∙ no_error (state l) u))
-      (ap seen.is_active (stands_up (state l) (stand t i (base i) l) u ((stands_so t i (base i) l m.lived m.always).0 ready b z)))
+      ∙ and_from (not (list_any lives.is_fall (life_of (base i) (life_in p i)))) (seen.active t (lives.taken (life_of (base i) (life_in p i))) i)
+      (ap not (fallen_is t i (base i) (life_in p i) m.lived ∙ no_error (state (life_in p i)) u))
+      (ap seen.is_active (stands_up (state (life_in p i)) (stand t i (base i) (life_in p i)) u ((stands_so t i (base i) (life_in p i) m.lived m.always).0 (ready_up p h i b u) b z)))
     where
-      l : Life
-      l = life_in p i
-
       m : MomentOf t one.log (base i) i (life_in p i)
       m = r.moments p h i
-
-      ready : IsReady t i (life_in p i)
-      ready = ready_by t i (base i) (life_in p i) (shape_of t i (base i) (life_in p i) m.always b) (or_left (is_up (state (life_in p i))) (is_recovering (state (life_in p i)) && has_give (life_in p i)) u)
 
       no_error : (x : MemberState) → is_up x ≡ true → is_error x ≡ false
       no_error Online q = refl
@@ -195,3 +204,13 @@ module _ (t : Setup) (w : Past) (one : OneLogOf t w) (done : AllDid (IsDone t) w
       stands_up Error y q k = absurd (false≢true q)
       stands_up Recovering y q k = absurd (false≢true q)
       stands_up Offline y q k = absurd (false≢true q)
+
+  -- its view is that of its life in the run
+  pub view_at : (p : Past) (i : Inc) → Sound t i (base i) (life_in p i) → primary.view t (lives.taken (run.life (run_of base p) i)) ≡ view t (life_in p i)
+  view_at p i s = ap (λ l. primary.view t (lives.taken l)) (lives_agree base p i) ∙ views_agree t (base i) (life_in p i) s.taking
+
+  -- a call comes in a settled moment
+  pub at_call : (i : Inc) (b c : Past) (v : Level) (set : Gtids) (sync : Option ℕ) → BegunAt w i b c v set sync → (1 < length (life_in c i)) × (is_settled i (life_in c i) ≡ true)
+  at_call i b c v set sync h =
+      let d = done_at (IsDone t) w c i (Called h.session v h.limit) done (past_of b (Does i (Called h.session v h.limit) ∷ c) w (begun_past i b c v set sync h) h.call) in
+      (d.0.begun, d.0.settled)
