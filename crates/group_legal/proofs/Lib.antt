@@ -9,4 +9,6 @@ pub mod Points
 pub mod Verdicts
 pub mod RowsFit
 pub mod Failovers
+pub mod Completes
+pub mod Afters
 mod Ordered
