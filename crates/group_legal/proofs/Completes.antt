@@ -38,6 +38,7 @@ use Rattle.group_lives.proofs.Standings.{stands}
 use Rattle.group_legal.specs.Bases.{list_of}
 use Rattle.group_legal.proofs.Scanned.{takes, new_entry}
 use Rattle.group_legal.proofs.Newcomers.{adds_new}
+use Rattle.group_legal.proofs.Points.{values_length}
 use Rattle.group_legal.proofs.Prefix.{past_is_upto, list_length, list_more, list_if}
 
 -- ---- one value more
@@ -61,10 +62,6 @@ new_place t v log e =
     let n : length (list_of t (v ∷ log)) ≡ suc (length (list_of t log)) = ap length (list_grows t v log e) in
     let p : (new_entry t v log).place ≡ (reading_of t log).place + 1 = refl in
     (omega (arith, m, n, p), omega (arith, m, p))
-
-values_length : (xs : List law.Placed) → length (law.values xs) ≡ length xs
-values_length [] = refl
-values_length (x ∷ xs) = ap suc (values_length xs)
 
 -- ---- parts
 

@@ -11,4 +11,6 @@ pub mod RowsFit
 pub mod Failovers
 pub mod Completes
 pub mod Afters
+mod Greetings
+pub mod Befores
 mod Ordered

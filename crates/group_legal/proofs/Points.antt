@@ -100,6 +100,10 @@ level_in d u = u
 
 -- ---- one that takes part
 
+pub values_length : (xs : List law.Placed) → length (law.values xs) ≡ length xs
+values_length [] = refl
+values_length (x ∷ xs) = ap suc (values_length xs)
+
 pub sound_at : (t : Setup) (i : Inc) (base : List law.Placed) (l : Life) → AlwaysSound t i base l → IsReady t i l → 0 < length l → Sound t i base l
 sound_at t i base [] o k n = absurd (omega (arith, n))
 sound_at t i base (d ∷ l) o k n = o.0.0.1 k n
@@ -119,15 +123,9 @@ module _ (t : Setup) (w : Past) (one : OneLogOf t w) (done : AllDid (IsDone t) w
   pub begun_past : (i : Inc) (b c : Past) (v : Level) (set : Gtids) (sync : Option ℕ) → BegunAt w i b c v set sync → IsPast b w
   begun_past i b c v set sync h = past_of (Does i (Begun h.session set sync) ∷ b) b w h.answer (inr (past_self b))
 
-  -- a begin that was answered is so in the run of the laws
-  pub was_begun : (i : Inc) (b c : Past) (v : Level) (set : Gtids) (sync : Option ℕ) → BegunAt w i b c v set sync → WasBegun (run_of base w) i (run_of base b) (run_of base c) v
-  was_begun i b c v set sync h = record {
-    session = h.session;
-    sync = sync_number v (life_in c i);
-    mark = point base (Does i (Begun h.session set sync) ∷ b) w h.answer;
-    call = point base (Does i (Called h.session v h.limit) ∷ c) b h.call;
-    last = last;
-  }
+  -- its call has its level
+  pub called_level : (i : Inc) (b c : Past) (v : Level) (set : Gtids) (sync : Option ℕ) → (h : BegunAt w i b c v set sync) → (h.last.0).level ≡ v
+  called_level i b c v set sync h = ap (λ d. level_in d v) (same_did (Called h.session call.level named.0) (Called h.session v h.limit) call.past (life_in c i) (life_in b i) h.last.2 named.1 there)
     where
       call : Call
       call = h.last.0
@@ -138,8 +136,18 @@ module _ (t : Setup) (w : Past) (one : OneLogOf t w) (done : AllDid (IsDone t) w
       there : left.IsPast (Called h.session v h.limit ∷ life_in c i) (life_in b i)
       there = subst (λ y. left.IsPast y (life_in b i)) (did_here c i (Called h.session v h.limit)) (history_past (Does i (Called h.session v h.limit) ∷ c) b i h.call)
 
-      level : call.level ≡ v
-      level = ap (λ d. level_in d v) (same_did (Called h.session call.level named.0) (Called h.session v h.limit) call.past (life_in c i) (life_in b i) h.last.2 named.1 there)
+  -- a begin that was answered is so in the run of the laws
+  pub was_begun : (i : Inc) (b c : Past) (v : Level) (set : Gtids) (sync : Option ℕ) → BegunAt w i b c v set sync → WasBegun (run_of base w) i (run_of base b) (run_of base c) v
+  was_begun i b c v set sync h = record {
+    session = h.session;
+    sync = sync_number v (life_in c i);
+    mark = point base (Does i (Begun h.session set sync) ∷ b) w h.answer;
+    call = point base (Does i (Called h.session v h.limit) ∷ c) b h.call;
+    last = last;
+  }
+    where
+      level : (h.last.0).level ≡ v
+      level = called_level i b c v set sync h
 
       last : lives.last_call (run.life (run_of base b) i) h.session ≡ Some (record { level = v; sync = sync_number v (life_in c i); past = run.life (run_of base c) i })
       last =
@@ -148,6 +156,11 @@ module _ (t : Setup) (w : Past) (one : OneLogOf t w) (done : AllDid (IsDone t) w
           ∙ ap (calls t i (base i)) h.last.1
           ∙ (λ j. Some (record { level = level j; sync = sync_number (level j) (h.last.2 j); past = life_of (base i) (h.last.2 j) }))
           ∙ ap (λ y. Some (record { level = v; sync = sync_number v (life_in c i); past = y })) (sym (lives_agree base c i))
+
+  -- with the number of its Sync
+  pub sync_is : (i : Inc) (b c : Past) (v : Level) (set : Gtids) (sync : Option ℕ) → (h : BegunAt w i b c v set sync) → (was_begun i b c v set sync h).sync ≡ sync_number v (life_in c i)
+  unfolding was_begun
+  sync_is i b c v set sync h = refl
 
   -- it reads what was executed then
   pub is_begun : (i : Inc) (b c : Past) (v : Level) (set : Gtids) (sync : Option ℕ) → (h : BegunAt w i b c v set sync) → IsBegun t i (life_in b i) h.session set sync
