@@ -13,4 +13,5 @@ pub mod Completes
 pub mod Afters
 mod Greetings
 pub mod Befores
+pub mod Legals
 mod Ordered
