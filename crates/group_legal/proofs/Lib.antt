@@ -8,6 +8,15 @@ pub mod Takers
 pub mod Owners
 pub mod Sorted
 pub mod Stocks
+pub mod Points
+pub mod Verdicts
+pub mod RowsFit
+pub mod Failovers
+pub mod Completes
+pub mod Afters
+mod Greetings
+pub mod Befores
+pub mod Legals
 mod Ordered
 pub mod Carried
 pub mod Listed
