@@ -9,3 +9,4 @@ pub mod Owners
 pub mod Sorted
 pub mod Stocks
 mod Ordered
+pub mod CutParts

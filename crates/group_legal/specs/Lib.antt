@@ -2,3 +2,4 @@ pub mod Lists
 pub mod Bases
 pub mod Order
 pub mod LawRun
+pub mod OwnRanges
