@@ -10,3 +10,4 @@ pub mod Sorted
 pub mod Stocks
 mod Ordered
 pub mod CutParts
+pub mod OwnValues
