@@ -11,3 +11,4 @@ pub mod Stocks
 mod Ordered
 pub mod CutParts
 pub mod OwnValues
+pub mod OwnParts
