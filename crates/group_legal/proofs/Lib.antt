@@ -12,3 +12,4 @@ mod Ordered
 pub mod CutParts
 pub mod OwnValues
 pub mod OwnParts
+pub mod Origins

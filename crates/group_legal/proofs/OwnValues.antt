@@ -193,6 +193,13 @@ past_more d l xs h = go (makes_or_not d l)
     go (inl (v, b, e)) = subst (λ y. listing.IsPast xs (owns (y ∷ l))) (sym e) (inr h)
     go (inr e) = subst (λ y. listing.IsPast xs y) (sym e) h
 
+in_more : (d : Did) (l : Life) (x : Own) → In x (owns l) → In x (owns (d ∷ l))
+in_more d l x h = go (makes_or_not d l)
+  where
+    go : MakesOrNot d l → In x (owns (d ∷ l))
+    go (inl (v, b, e)) = subst (λ y. In x (owns (y ∷ l))) (sym e) (inr h)
+    go (inr e) = subst (λ y. In x y) (sym e) h
+
 past_here : (xs : List Own) → listing.IsPast xs xs
 past_here [] = refl
 past_here (x ∷ xs) = inl refl
@@ -214,17 +221,35 @@ happened i d [] h = absurd h
 happened i d (x ∷ p) (inl e) = (p, inl (ap (λ y. y ∷ p) (sym e)))
 happened i d (x ∷ p) (inr h) = let r = happened i d p h in (r.0, inr r.1)
 
-first_in : (x : Own) (xs ys : List Own) → listing.IsPast (x ∷ xs) ys → In x ys
+-- what was made is one of the own values
+pub own_made : (o : Inc) (v : Value) (b : Option Body) (w : Past) → In (Does o (Made v b)) w → In (record { value = v; holds = b }) (owns (life_in w o))
+own_made o v b [] h = absurd h
+own_made o v b (WritesOffline n x ∷ w) (inl e) = absurd (cc e)
+own_made o v b (WritesOffline n x ∷ w) (inr h) = own_made o v b w h
+own_made o v b (Halts n ∷ w) (inl e) = absurd (cc e)
+own_made o v b (Halts n ∷ w) (inr h) = own_made o v b w h
+own_made o v b (Does j d ∷ w) (inl e) =
+    let who : j ≡ o = cc in
+    let did : d ≡ Made v b = cc in
+    let here : inc_eq j o ≡ true = ap (λ y. inc_eq y o) who ∙ inc_same o in
+    subst (λ y. In (record { value = v; holds = b }) (owns y)) (sym (ap (λ c. elim c [ true ↦ d ∷ life_in w o | false ↦ life_in w o ]) here ∙ ap (λ y. y ∷ life_in w o) did)) (inl refl)
+own_made o v b (Does j d ∷ w) (inr h) = go (inc_eq j o) (own_made o v b w h)
+  where
+    go : (c : Bool) → In (record { value = v; holds = b }) (owns (life_in w o)) → In (record { value = v; holds = b }) (owns (elim c [ true ↦ d ∷ life_in w o | false ↦ life_in w o ]))
+    go true k = in_more d (life_in w o) (record { value = v; holds = b }) k
+    go false k = k
+
+pub first_in : (x : Own) (xs ys : List Own) → listing.IsPast (x ∷ xs) ys → In x ys
 first_in x xs [] h = absurd (cc h)
 first_in x xs (y ∷ ys) (inl e) = inl cc
 first_in x xs (y ∷ ys) (inr h) = inr (first_in x xs ys h)
 
-rest_past : (x : Own) (xs ys : List Own) → listing.IsPast (x ∷ xs) ys → listing.IsPast xs ys
+pub rest_past : (x : Own) (xs ys : List Own) → listing.IsPast (x ∷ xs) ys → listing.IsPast xs ys
 rest_past x xs [] h = absurd (cc h)
 rest_past x xs (y ∷ ys) (inl e) = let z : xs ≡ ys = cc in inr (subst (λ u. listing.IsPast xs u) z (past_here xs))
 rest_past x xs (y ∷ ys) (inr h) = inr (rest_past x xs ys h)
 
-own_of : (o : Inc) (xs ys : List Own) → listing.IsPast xs ys → AreOwn o ys → AreOwn o xs
+pub own_of : (o : Inc) (xs ys : List Own) → listing.IsPast xs ys → AreOwn o ys → AreOwn o xs
 own_of o xs [] h k = subst (AreOwn o) (sym h) tt
 own_of o xs (y ∷ ys) (inl e) k = subst (AreOwn o) (sym e) k
 own_of o xs (y ∷ ys) (inr h) k = own_of o xs ys h k.1
@@ -238,7 +263,7 @@ own_below o x (y ∷ ys) k (inr h) =
     omega (arith, z, n)
 
 -- two of one number are one
-own_once : (o : Inc) (x y : Own) (xs : List Own) → AreOwn o xs → In x xs → In y xs → x.value.id.number ≡ y.value.id.number → x ≡ y
+pub own_once : (o : Inc) (x y : Own) (xs : List Own) → AreOwn o xs → In x xs → In y xs → x.value.id.number ≡ y.value.id.number → x ≡ y
 own_once o x y [] k a b e = absurd a
 own_once o x y (z ∷ zs) k (inl a) (inl b) e = sym a ∙ b
 own_once o x y (z ∷ zs) k (inr a) (inr b) e = own_once o x y zs k.1 a b e
