@@ -1,5 +1,5 @@
 -- Each value of the list was made by its origin before, as what its place does.
-use Rattle.std.proofs.Common.{◌≡◌, ◌⊎◌, inl, inr, ℕ, suc, ◌+◌, ◌≤◌, ◌<◌, Bool, true, false, cond, not, ◌&&◌, Option, Some, None, List, [], ◌∷◌, ◌++◌, refl, sym, ap, subst, ◌∙◌, length, arith}
+use Rattle.std.proofs.Common.{◌≡◌, ◌⊎◌, inl, inr, ℕ, suc, ◌+◌, Bool, true, false, cond, not, Option, Some, None, List, [], ◌∷◌, ◌++◌, refl, sym, ap, subst, ◌∙◌, length, arith}
 use Rattle.std.specs.Prelude.{if◌then◌else◌, nat_le}
 use Rattle.std.proofs.lemmas.Bool.{false≢true, and_parts, not-true}
 use Rattle.gr_ids.specs.declared.names.Inc.{Inc}
@@ -12,15 +12,15 @@ use Rattle.txn_forms.specs.declared.body.Body.{Body}
 use Rattle.txn_forms.specs.declared.body.Body.TheVariants.{Txn as Writes, Prepared, Sync, Executed, Online as Arrives, Mode as Switches, Primary as Appoints, Part as PartOf}
 use Rattle.node_rules.specs.Lists.{In}
 use Rattle.node_rules.proofs.Incs.{inc_is, inc_same}
-use Rattle.group_rules.specs.Events.{Did, Made, Took, Skips, Life, Setup, Entry}
+use Rattle.group_rules.specs.Events.{Did, Made, Took, Skips, Setup, Entry}
 use Rattle.group_rules.specs.Life.{entry_at}
 use Rattle.group_rules.specs.Parts.{open_parts, open_after, held}
 use Rattle.group_rules.specs.OneList.{reading_of, value_at, before_slot, scan_entry, listed_by, listed}
-use Rattle.group_rules.specs.Legal.{IsPast, WasMade, SameEntry}
+use Rattle.group_rules.specs.Legal.{IsPast, WasMade}
 use Rattle.group_rules.specs.World.{Past, Does, Writes as WritesOffline, Halts, life_in}
 use Rattle.group_runs.specs.Runs.{AllDid, IsDone}
-use Rattle.group_order.specs.OneLog.{TakenAs, SkippedAs, Follows, OneLogOf}
-use Rattle.group_order.proofs.Nexts.{past_self, past_of, did_past, done_at}
+use Rattle.group_order.specs.OneLog.{TakenAs, Follows, OneLogOf}
+use Rattle.group_order.proofs.Nexts.{past_self, past_of, done_at}
 use Rattle.group_order.proofs.Flips.{value_here, value_below}
 use Rattle.group_order.proofs.Lookups.{value_within, listed_entry}
 use Rattle.group_laws.specs.Lists as listing
@@ -31,12 +31,12 @@ use Rattle.group_laws.specs.Life as lives
 use Rattle.group_laws.specs.World as run
 use Rattle.group_laws.specs.World.{IsKeptList, MadeBy}
 use Rattle.group_laws.proofs.Lists.{IsPast-self}
-use Rattle.group_lives.specs.Lives.{does_body, does_entry, placed, made_as, asking, did_of, life_of, all_did, run_of}
+use Rattle.group_lives.specs.Lives.{does_body, does_entry, placed, made_as, asking, did_of, all_did, run_of}
 use Rattle.group_legal.specs.OwnRanges.{ReadBack, MadeInRange}
-use Rattle.group_legal.proofs.Scanned.{old_list, new_entry}
+use Rattle.group_legal.proofs.Scanned.{old_list}
 use Rattle.group_legal.proofs.Newcomers.{list_if}
 use Rattle.group_legal.proofs.Numbered.{kept_list}
-use Rattle.group_legal.proofs.OwnValues.{Own, owns, last_own, HoldsOwn, Fits, AreOwn, are_own, own_past, own_made, happened, first_in, rest_past, own_of, own_once}
+use Rattle.group_legal.proofs.OwnValues.{Own, owns, last_own, AreOwn, are_own, own_past, own_made, happened, first_in, rest_past, own_of, own_once}
 use Rattle.group_legal.proofs.OwnParts.{open_own, does_as_made}
 
 -- ---- the values of a log were made
@@ -200,45 +200,61 @@ module _ (t : Setup) (w : Past) (one : OneLogOf t w) (done : AllDid (IsDone t) w
       let same : x ≡ scanned = cc in
       sym f.listed.2.holds ∙ ap (λ (y : Entry). y.holds) same
 
+  module _ (p : Past) (i : Inc) (e : Entry) (k : IsPast (Does i (Took e) ∷ p) w) where
+    abbrev origin : Inc
+    origin = e.value.id.origin
+
+    -- the log before its slot
+    abbrev log_before : List Value
+    log_before = before_slot one.log e.slot
+
+    took : TakenAs t one.log p i e
+    took = done_at (Follows t one.log) w p i (Took e) one.follows k
+
+    abbrev made : Did
+    made = Made e.value took.made.0
+
+    -- when it was made, and the own values before it
+    at : (q : Past) × IsPast (Does origin made ∷ q) p
+    at = happened origin made p took.made.1
+
+    abbrev own_before : List Own
+    own_before = owns (life_in at.0 origin)
+
+    abbrev own_made_here : List Own
+    own_made_here = record { value = e.value; holds = took.made.0 } ∷ own_before
+
+    own_all : AreOwn origin (owns (life_in w origin))
+    own_all = are_own t w done ranges origin
+
+    past_then : listing.IsPast own_made_here (owns (life_in w origin))
+    past_then =
+        let past_p : IsPast p w = past_of (Does i (Took e) ∷ p) p w k (inr (past_self p)) in
+        let past_at : IsPast (Does origin made ∷ at.0) w = past_of p (Does origin made ∷ at.0) w past_p at.1 in
+        let life : life_in (Does origin made ∷ at.0) origin ≡ made ∷ life_in at.0 origin =
+        ap (λ c. elim c [ true ↦ made ∷ life_in at.0 origin | false ↦ life_in at.0 origin ]) (inc_same origin) in
+        subst (λ y. listing.IsPast (owns y) (owns (life_in w origin))) life (own_past (Does origin made ∷ at.0) w origin past_at)
+
+    own_then : AreOwn origin own_made_here
+    own_then = own_of origin own_made_here (owns (life_in w origin)) past_then own_all
+
+    -- the list then has those before it
+    last : last_own own_before ≡ seen.last_kept (list_at t log_before) origin
+    last =
+        let n : e.value.id.number ≡ suc (last_own own_before) = own_then.0.1 in
+        let m = next_number t e.value log_before (kept_number (reading_of t log_before) e.value took.place took.effect took.kept) in
+        omega (arith, n, m)
+
+    opens : open_parts (listed t log_before) origin ≡ open_own origin own_before
+    opens =
+        let rest = rest_past (record { value = e.value; holds = took.made.0 }) own_before (owns (life_in w origin)) past_then in
+        list_opens t w origin own_all log_before (made_before_slot w one.log e.slot log_made) own_before rest last
+
+    does_the_same : unplaced (does_entry e.value.what e.effect e.holds) ≡ does_body took.made.0
+    does_the_same =
+        ap (λ y. unplaced (does_entry e.value.what e.effect y)) (entry_holds p i e took ∙ ap (λ y. held y e.value.what) opens)
+        ∙ does_as_made reads origin own_before e.value took.made.0 own_then.1 own_then.0.3 own_then.0.2 e.effect
+
+  -- each value that is taken was made before, as what its place does
   pub made_before : (base : Inc → List law.Placed) (p : Past) (i : Inc) (e : Entry) → IsPast (Does i (Took e) ∷ p) w → MadeBy (run_of base p) (placed e).value
-  made_before base p i e k = made_by base at.0 p e f.made.0 at.1 does
-    where
-      f : TakenAs t one.log p i e
-      f = done_at (Follows t one.log) w p i (Took e) one.follows k
-
-      at : (q : Past) × IsPast (Does e.value.id.origin (Made e.value f.made.0) ∷ q) p
-      at = happened e.value.id.origin (Made e.value f.made.0) p f.made.1
-
-      past_p : IsPast p w
-      past_p = past_of (Does i (Took e) ∷ p) p w k (inr (past_self p))
-
-      made_at : IsPast (Does e.value.id.origin (Made e.value f.made.0) ∷ at.0) w
-      made_at = past_of p _ w past_p at.1
-
-      own_all : AreOwn e.value.id.origin (owns (life_in w e.value.id.origin))
-      own_all = are_own t w done ranges e.value.id.origin
-
-      -- the values made up to it
-      life_then : life_in (Does e.value.id.origin (Made e.value f.made.0) ∷ at.0) e.value.id.origin ≡ Made e.value f.made.0 ∷ life_in at.0 e.value.id.origin
-      life_then = ap (λ c. elim c [ true ↦ Made e.value f.made.0 ∷ life_in at.0 e.value.id.origin | false ↦ life_in at.0 e.value.id.origin ]) (inc_same e.value.id.origin)
-
-      past_then : listing.IsPast (record { value = e.value; holds = f.made.0 } ∷ owns (life_in at.0 e.value.id.origin)) (owns (life_in w e.value.id.origin))
-      past_then = subst (λ y. listing.IsPast (owns y) (owns (life_in w e.value.id.origin))) life_then (own_past (Does e.value.id.origin (Made e.value f.made.0) ∷ at.0) w e.value.id.origin made_at)
-
-      own_then : AreOwn e.value.id.origin (record { value = e.value; holds = f.made.0 } ∷ owns (life_in at.0 e.value.id.origin))
-      own_then = own_of e.value.id.origin _ (owns (life_in w e.value.id.origin)) past_then own_all
-
-      number : e.value.id.number ≡ suc (seen.last_kept (list_at t (before_slot one.log e.slot)) e.value.id.origin)
-      number = next_number t e.value (before_slot one.log e.slot) (kept_number (reading_of t (before_slot one.log e.slot)) e.value f.place f.effect f.kept)
-
-      last : last_own (owns (life_in at.0 e.value.id.origin)) ≡ seen.last_kept (list_at t (before_slot one.log e.slot)) e.value.id.origin
-      last = let n : e.value.id.number ≡ suc (last_own (owns (life_in at.0 e.value.id.origin))) = own_then.0.1 in let m = number in omega (arith, n, m)
-
-      opens : open_parts (listed t (before_slot one.log e.slot)) e.value.id.origin ≡ open_own e.value.id.origin (owns (life_in at.0 e.value.id.origin))
-      opens = list_opens t w e.value.id.origin own_all (before_slot one.log e.slot) (made_before_slot w one.log e.slot log_made) (owns (life_in at.0 e.value.id.origin)) (rest_past _ _ (owns (life_in w e.value.id.origin)) past_then) last
-
-      holds : e.holds ≡ held (open_own e.value.id.origin (owns (life_in at.0 e.value.id.origin))) e.value.what
-      holds = entry_holds p i e f ∙ ap (λ y. held y e.value.what) opens
-
-      does : unplaced (does_entry e.value.what e.effect e.holds) ≡ does_body f.made.0
-      does = ap (λ y. unplaced (does_entry e.value.what e.effect y)) holds ∙ does_as_made reads e.value.id.origin (owns (life_in at.0 e.value.id.origin)) e.value f.made.0 own_then.1 own_then.0.3 own_then.0.2 e.effect
+  made_before base p i e k = made_by base (at p i e k).0 p e (took p i e k).made.0 (at p i e k).1 (does_the_same p i e k)

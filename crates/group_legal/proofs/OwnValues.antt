@@ -1,13 +1,7 @@
 -- The own values that an incarnation made, and the parts that they leave open.
-use Rattle.std.proofs.Common.{◌≡◌, ◌⊎◌, inl, inr, ℕ, zero, suc, ◌+◌, ◌*◌, ◌-◌, ◌≤◌, ◌<◌, Bool, true, false, ◌&&◌, ◌||◌, Option, Some, None, List, [], ◌∷◌, ◌++◌, refl, sym, ap, subst, ◌∙◌, length, take, drop, reverse, arith, eqb, eq-eqb}
-use Rattle.std.specs.Prelude.{◌==◌, if◌then◌else◌}
-use Rattle.std.proofs.lemmas.Bool.{false≢true, lt-ltb, le-leb}
-use Rattle.std.proofs.lemmas.List.{length-take, length-drop, take_all}
-use Rattle.byte_forms.specs.Reads.{value_of}
-use Rattle.byte_forms.proofs.FormLemmas.{whole_read}
-use Rattle.name_forms.specs.OpenParts.{part_size}
+use Rattle.std.proofs.Common.{◌≡◌, ◌⊎◌, inl, inr, ℕ, suc, ◌≤◌, ◌<◌, Bool, true, false, Option, Some, None, List, [], ◌∷◌, refl, sym, ap, subst, ◌∙◌, length, reverse, arith}
+use Rattle.std.specs.Prelude.{◌==◌}
 use Rattle.gr_ids.specs.declared.names.Inc.{Inc}
-use Rattle.gr_ids.specs.declared.names.OpenParts.{OpenParts}
 use Rattle.gr_ids.specs.Names.{inc_eq}
 use Rattle.slot_values.specs.declared.value.Value.{Value}
 use Rattle.slot_values.specs.declared.value.What.TheVariants.{Body as Says}
@@ -15,20 +9,19 @@ use Rattle.txn_forms.specs.declared.body.Body.{Body}
 use Rattle.txn_forms.specs.declared.body.Body.TheVariants.{Txn as Writes, Prepared, Sync, Executed, Online as Arrives, Mode as Switches, Primary as Appoints, Part as PartOf}
 use Rattle.txn_forms.specs.declared.body.Part.{Part}
 use Rattle.txn_forms.specs.declared.body.Txn.{Txn}
-use Rattle.txn_forms.specs.Bodies.{IsPart, body_bytes, read_body}
-use Rattle.txn_forms.specs.Parts.{whole_bytes, most_bytes, goes_on, bytes_before, after_part, if_txn, joined}
+use Rattle.txn_forms.specs.Bodies.{body_bytes}
+use Rattle.txn_forms.specs.Parts.{whole_bytes, most_bytes}
 use Rattle.node_rules.specs.Lists.{In}
 use Rattle.group_rules.specs.Events.{Did, Founds, Starts, Came, Made, Took, Skips, Done, Committed, Is, Gave, Answered, Begun, Changed, Replied, Called, AsksCommit, Ends, Enters, Restores, AskFails, Life, Setup}
 use Rattle.group_rules.specs.Life.{last_made}
 use Rattle.group_rules.specs.Legal.{IsPast}
-use Rattle.group_rules.specs.Parts.{open_after, joined_or, held_body, held_part, held, cut}
+use Rattle.group_rules.specs.Parts.{cut}
 use Rattle.group_rules.specs.World.{Past, Does, Writes as WritesOffline, Halts, life_in}
-use Rattle.group_bridge.specs.Left.{MadeParts, HoldsRightly, IsMade}
+use Rattle.group_bridge.specs.Left.{MadeParts, HoldsRightly}
 use Rattle.group_runs.specs.Runs.{AllDid, IsDone}
 use Rattle.group_laws.specs.Lists as listing
 use Rattle.node_rules.proofs.Incs.{inc_is, inc_same}
-use Rattle.group_legal.specs.OwnRanges.{InRange, ReadBack, MadeInRange}
-use Rattle.group_legal.proofs.CutParts.{part_at, first_parts, parts_in, cut_is, joined_more, IsCount, counted}
+use Rattle.group_legal.specs.OwnRanges.{InRange, MadeInRange}
 
 -- ---- own values
 
