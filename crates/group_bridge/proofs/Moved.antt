@@ -1,7 +1,7 @@
 -- Each step of a member is made of acts of its node, of things left in its history as the rules ask, and of messages that aren't its node's.
 use Rattle.std.proofs.Common.{eq-eqb, eqb, append_assoc, ◌≡◌, ◌⊎◌, inl, inr, ℕ, zero, suc, ◌+◌, ◌-◌, ◌/◌, ◌≤◌, ◌<◌, Bool, true, false, Option, Some, None, List, [], ◌∷◌, ◌++◌, refl, sym, ap, subst, ◌∙◌, arith}
 use Rattle.std.specs.Prelude.{length, reverse, filter, not, ◌&&◌, ◌==◌, nat_le, take, drop, if◌then◌else◌, is_some}
-use Rattle.std.proofs.lemmas.Bool.{false≢true, and_parts, cases_Bool, eqb-true, leb-true, leb-false, not-true}
+use Rattle.std.proofs.lemmas.Bool.{false≢true, and_from, and_parts, cases_Bool, eqb-true, leb-true, leb-false, ltb-false, not-true}
 use Rattle.std.proofs.lemmas.List.{reverse-append}
 use Rattle.gr_ids.specs.Names.{id_eq, inc_eq, is_inc}
 use Rattle.gr_ids.specs.declared.names.Inc.{Inc}
@@ -54,7 +54,7 @@ use Rattle.group_rules.specs.Holds.{has_sync, sync_told}
 use Rattle.group_rules.specs.Queue.{pending, at_place, queue, is_own}
 use Rattle.group_rules.specs.Commit.{may_commit, owes_prepared}
 use Rattle.name_forms.specs.OpenParts.{part_size}
-use Rattle.txn_forms.specs.Parts.{whole_bytes}
+use Rattle.txn_forms.specs.Parts.{whole_bytes, most_bytes}
 use Rattle.group_rules.specs.Parts.{cut, cut_from}
 use Rattle.group_rules.specs.Calls.{begin, send_sync, change_row, unless_locked, statement, own_part, ask_commit, send_parts, send_txn, commit_bytes, commit_changes, in_transaction, without_transaction, by_phase, unless_killed, call, misfit, state_then, read_only, is_read_only, txn_of}
 use Rattle.group_rules.specs.Welcomes.{hear_welcome}
@@ -255,19 +255,19 @@ module _ (e : Event) where
   open_ends s a o = ended_in Active a.life s o.active refl
 
   -- the parts of a large transaction, from one on: those before it were made
-  moves_cut : (t : Txn) (s : ℕ) (id : ValueId) (past : Life) → IsOpen past s → (changes past s ≡ [] → ⊥) → t ≡ txn_then past s → whole_bytes < length (body_bytes (HasTxn t)) →
+  moves_cut : (t : Txn) (s : ℕ) (id : ValueId) (past : Life) → IsOpen past s → (changes past s ≡ [] → ⊥) → t ≡ txn_then past s → whole_bytes < length (body_bytes (HasTxn t)) → length (body_bytes (HasTxn t)) ≤ most_bytes →
       (k c : ℕ) (b : List ℕ) (done : List Part) (a : Member) → id ≡ record { origin = a.me.inc; number = last_made a.life + k } → k ≤ c → MadeParts done a.life (AsksCommit s id ∷ past) → reverse done ++ cut_from k c b ≡ cut (body_bytes (HasTxn t)) →
       Moves e a (for_each (own_part t) (cut_from k c b) a)
-  moves_cut t s id past o ne q large zero c b done a n h m r = Stays a
-  moves_cut t s id past o ne q large (suc zero) c b done a n h m r = go (p.index == p.count) (eq-eqb p.index p.count (omega arith))
+  moves_cut t s id past o ne q large most zero c b done a n h m r = Stays a
+  moves_cut t s id past o ne q large most (suc zero) c b done a n h m r = go (p.index == p.count) (eq-eqb p.index p.count (omega arith))
     where
       p : Part
       p = record { index = c - 0; count = c; bytes = take part_size b }
 
       go : (x : Bool) → x ≡ true → Moves e a (own (Says (body_bytes (PartOf p))) (Some (elim x [ true ↦ HasTxn t | false ↦ PartOf p ])) a)
-      go true y = moves_own (Says (body_bytes (PartOf p))) (Some (HasTxn t)) a (record { session = s; id = id; past = past; asked_as = n ∙ ap (λ x. record { origin = a.me.inc; number = x }) (one_more (last_made a.life)); is_open = o; some_changes = ne; txn = q; parts = done; since = m; bytes = inr (p, refl, large, reverse-append (p ∷ []) done ∙ r) })
+      go true y = moves_own (Says (body_bytes (PartOf p))) (Some (HasTxn t)) a (record { session = s; id = id; past = past; asked_as = n ∙ ap (λ x. record { origin = a.me.inc; number = x }) (one_more (last_made a.life)); is_open = o; some_changes = ne; txn = q; parts = done; since = m; bytes = inr (p, refl, large, reverse-append (p ∷ []) done ∙ r); most = most })
       go false y = absurd (false≢true y)
-  moves_cut t s id past o ne q large (suc (suc k)) c b done a n h m r = go (p.index == p.count) off (moves_cut t s id past o ne q large (suc k) c (drop part_size b) (p ∷ done) next (n ∙ ap (λ x. record { origin = a.me.inc; number = x }) (moved (last_made a.life) k)) (omega arith) since more)
+  moves_cut t s id past o ne q large most (suc (suc k)) c b done a n h m r = go (p.index == p.count) off (moves_cut t s id past o ne q large most (suc k) c (drop part_size b) (p ∷ done) next (n ∙ ap (λ x. record { origin = a.me.inc; number = x }) (moved (last_made a.life) k)) (omega arith) since more)
     where
       p : Part
       p = record { index = c - suc k; count = c; bytes = take part_size b }
@@ -293,16 +293,16 @@ module _ (e : Event) where
       let i : ValueId = record { origin = a.me.inc; number = n } in
       Then (Leaves (AsksCommit s i) a o) (Then h (Leaves (Answered s (Sent i)) (f (push (AsksCommit s i) a)) tt))
 
-  moves_parts : (s : ℕ) (a : Member) → IsOpen a.life s → (changes a.life s ≡ [] → ⊥) → whole_bytes < length (body_bytes (HasTxn (txn_of s a))) → Moves e a (send_parts s (txn_of s a) (cut (body_bytes (HasTxn (txn_of s a)))) a)
-  moves_parts s a o ne large =
+  moves_parts : (s : ℕ) (a : Member) → IsOpen a.life s → (changes a.life s ≡ [] → ⊥) → whole_bytes < length (body_bytes (HasTxn (txn_of s a))) → length (body_bytes (HasTxn (txn_of s a))) ≤ most_bytes → Moves e a (send_parts s (txn_of s a) (cut (body_bytes (HasTxn (txn_of s a)))) a)
+  moves_parts s a o ne large most =
       let t : Txn = txn_of s a in
       let b : List ℕ = body_bytes (HasTxn t) in
       let i : ValueId = record { origin = a.me.inc; number = last_made a.life + length (cut b) } in
       let c : ℕ = (length b + part_size - 1) / part_size in
-      moves_ask_commit s (last_made a.life + length (cut b)) (for_each (own_part t) (cut b)) a o (moves_cut t s i a.life o ne refl large c c b [] (push (AsksCommit s i) a) (ap (λ x. record { origin = a.me.inc; number = last_made a.life + x }) (cut_length c c b)) (omega arith) refl refl)
+      moves_ask_commit s (last_made a.life + length (cut b)) (for_each (own_part t) (cut b)) a o (moves_cut t s i a.life o ne refl large most c c b [] (push (AsksCommit s i) a) (ap (λ x. record { origin = a.me.inc; number = last_made a.life + x }) (cut_length c c b)) (omega arith) refl refl)
 
-  moves_send_txn : (s : ℕ) (a : Member) → IsOpen a.life s → (changes a.life s ≡ [] → ⊥) → Moves e a (send_txn s (txn_of s a) (body_bytes (HasTxn (txn_of s a))) a)
-  moves_send_txn s a o ne = go (nat_le (length b) whole_bytes) refl
+  moves_send_txn : (s : ℕ) (a : Member) → IsOpen a.life s → (changes a.life s ≡ [] → ⊥) → length (body_bytes (HasTxn (txn_of s a))) ≤ most_bytes → Moves e a (send_txn s (txn_of s a) (body_bytes (HasTxn (txn_of s a))) a)
+  moves_send_txn s a o ne most = go (nat_le (length b) whole_bytes) refl
     where
       t : Txn
       t = txn_of s a
@@ -315,11 +315,11 @@ module _ (e : Event) where
 
       go : (x : Bool) → nat_le (length b) whole_bytes ≡ x → Moves e a (elim x [ true ↦ ask_commit s (last_made a.life + 1) (own (Says b) (Some (HasTxn t))) a | false ↦ send_parts s t (cut b) a ])
       go true y = moves_ask_commit s (last_made a.life + 1) (own (Says b) (Some (HasTxn t))) a o
-          (moves_own (Says b) (Some (HasTxn t)) (push (AsksCommit s i) a) (record { session = s; id = i; past = a.life; asked_as = ap (λ x. record { origin = a.me.inc; number = x }) (one_more (last_made a.life)); is_open = o; some_changes = ne; txn = refl; parts = []; since = refl; bytes = inl (refl, refl, le_true (length b) whole_bytes y) }))
-      go false y = moves_parts s a o ne (le_false (length b) whole_bytes y)
+          (moves_own (Says b) (Some (HasTxn t)) (push (AsksCommit s i) a) (record { session = s; id = i; past = a.life; asked_as = ap (λ x. record { origin = a.me.inc; number = x }) (one_more (last_made a.life)); is_open = o; some_changes = ne; txn = refl; parts = []; since = refl; bytes = inl (refl, refl, le_true (length b) whole_bytes y); most = most }))
+      go false y = moves_parts s a o ne (le_false (length b) whole_bytes y) most
 
   moves_commit_bytes : (s : ℕ) (a : Member) → IsOpen a.life s → (changes a.life s ≡ [] → ⊥) → Moves e a (commit_bytes s (txn_of s a) (body_bytes (HasTxn (txn_of s a))) a)
-  moves_commit_bytes s a o ne = either _ (moves_last s _ a tt (open_ends s a o)) (moves_send_txn s a o ne)
+  moves_commit_bytes s a o ne = where_false _ (moves_last s _ a tt (open_ends s a o)) (λ f. moves_send_txn s a o ne (ltb-false most_bytes (length (body_bytes (HasTxn (txn_of s a)))) f))
 
   moves_commit_changes : (s : ℕ) (cs : List Change) (a : Member) → changes a.life s ≡ cs → IsOpen a.life s → Moves e a (commit_changes s cs a)
   moves_commit_changes s [] a q o = moves_last s CommittedEmpty a tt (open_ends s a o)

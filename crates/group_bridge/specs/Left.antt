@@ -44,7 +44,7 @@ use Rattle.group_rules.specs.Keys.{killed, was_left, holder}
 use Rattle.group_rules.specs.Rows.{fits, row_now, known}
 use Rattle.group_rules.specs.Holds.{is_released, sync_told}
 use Rattle.group_rules.specs.Calls.{state_then, items_of, is_after_call}
-use Rattle.txn_forms.specs.Parts.{whole_bytes}
+use Rattle.txn_forms.specs.Parts.{whole_bytes, most_bytes}
 use Rattle.group_rules.specs.Parts.{cut}
 use Rattle.group_rules.specs.Recovery.{add_place, certs_given, pending_ask, is_possible, is_add, give_of}
 use Rattle.group_rules.specs.Taking.{entry_of}
@@ -71,6 +71,7 @@ MadeParts [] l before = l ≡ before
 MadeParts (p ∷ ps) l before = (v : Value) × (rest : Life) × (l ≡ Made v (Some (PartOf p)) ∷ rest) × MadeParts ps rest before
 
 -- The transaction of a session, whose commit was asked right before: its value has the whole body, or the last part of it, the others having been made.
+-- A body of more bytes than most_bytes is refused.
 pub record AsksFor (l : Life) (v : Value) (t : Txn) : Type 0 where
   pub session : ℕ
   pub id : ValueId
@@ -82,6 +83,7 @@ pub record AsksFor (l : Life) (v : Value) (t : Txn) : Type 0 where
   pub parts : List Part
   pub since : MadeParts parts l (AsksCommit session id ∷ past)
   pub bytes : ((parts ≡ []) × (v.what ≡ Says (body_bytes (Writes t))) × (length (body_bytes (Writes t)) ≤ whole_bytes)) ⊎ ((p : Part) × (v.what ≡ Says (body_bytes (PartOf p))) × (whole_bytes < length (body_bytes (Writes t))) × (reverse (p ∷ parts) ≡ cut (body_bytes (Writes t))))
+  pub most : length (body_bytes (Writes t)) ≤ most_bytes
 
 -- what an own value is to hold
 abbrev pub HoldsRightly : Setup → Inc → Life → Value → Option Body → Type 0

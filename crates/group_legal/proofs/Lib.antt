@@ -21,3 +21,7 @@ mod Ordered
 pub mod Carried
 pub mod Listed
 pub mod Knowing
+pub mod CutParts
+pub mod OwnValues
+pub mod OwnParts
+pub mod Origins

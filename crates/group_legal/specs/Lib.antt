@@ -3,3 +3,4 @@ pub mod Bases
 pub mod Order
 pub mod LawRun
 pub mod Ranges
+pub mod OwnRanges

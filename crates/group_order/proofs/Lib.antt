@@ -1,4 +1,4 @@
-mod Flips
+pub mod Flips
 mod Logs
 pub mod Shapes
 pub mod Adds
@@ -12,5 +12,5 @@ mod Steps
 mod Entries
 mod Begins
 mod Agrees
-mod Lookups
+pub mod Lookups
 mod Orders
