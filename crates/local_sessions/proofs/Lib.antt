@@ -1,0 +1,9 @@
+pub mod EachOne
+pub mod InList
+pub mod Order
+pub mod Rows
+pub mod Sums
+pub mod Lengths
+pub mod Losers
+pub mod Spelled
+pub mod Active

@@ -1,0 +1,26 @@
+//! The sessions of one member: what each call is answered, and what becomes of their transactions.
+#![tactic(auto)]
+
+mod barring;
+mod beginning;
+mod changes;
+mod commit_step;
+mod commits;
+mod committing;
+mod later;
+mod leaving;
+mod listing;
+mod losing;
+mod reading;
+mod session;
+mod sessions;
+mod sizes;
+mod statements;
+mod tables;
+mod told;
+mod writing;
+
+pub use commit_step::CommitStep;
+pub use sessions::Sessions;
+pub use tables::Tables;
+pub use told::{Answered, TakenOwn};
