@@ -7,3 +7,5 @@ pub mod Lengths
 pub mod Losers
 pub mod Spelled
 pub mod Active
+pub mod Holders
+pub mod Replying

@@ -4,3 +4,5 @@ pub mod Replies
 pub mod Committing
 pub mod Others
 pub mod Sizes
+pub mod Following
+pub mod Acting

@@ -8,6 +8,7 @@ mod commit_step;
 mod commits;
 mod committing;
 mod later;
+mod laws;
 mod leaving;
 mod listing;
 mod losing;
@@ -21,6 +22,7 @@ mod told;
 mod writing;
 
 pub use commit_step::CommitStep;
+pub use laws::replies_are_those_of_the_rules;
 pub use sessions::Sessions;
 pub use tables::Tables;
 pub use told::{Answered, TakenOwn};
