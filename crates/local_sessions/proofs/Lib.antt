@@ -9,3 +9,5 @@ pub mod Spelled
 pub mod Active
 pub mod Holders
 pub mod Replying
+pub mod Finding
+pub mod Passing

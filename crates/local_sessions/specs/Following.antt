@@ -3,7 +3,8 @@ use Rattle.std.specs.Prelude.{◌≡◌, ℕ, Bool, true, false, Option, Some, N
 use Rattle.gr_ids.specs.declared.names.Gtid.{Gtid}
 use Rattle.key_items.specs.declared.item.Item.{Item}
 use Rattle.group_rules.specs.View.{View}
-use Rattle.group_rules.specs.Events.{Life}
+use Rattle.gr_ids.specs.declared.levels.MemberState.TheVariants.{Error, Offline, Online, Recovering}
+use Rattle.group_rules.specs.Events.{AskFails, AsksCommit, Answered, Begun, Called, Came, Changed, Committed, Did, Done, Ends, Enters, Founds, Gave, Is, Life, Made, Replied, Restores, Skips, Starts, Took}
 use Rattle.group_rules.specs.Life.{executed, state, view}
 use Rattle.group_rules.specs.Queue.{queue}
 use Rattle.group_rules.specs.Member.{Member}
@@ -71,6 +72,7 @@ is_holder (Some t) s = t == s
 pub record LocksOf (locks : Locked) (l : Life) : Type 0 where
   pub keys : (i : Item) (s : ℕ) → is_holder (session_at locks.keys i) s ≡ holds_key l i s
   pub called : (s : ℕ) → is_free (phase l s) ≡ false → has_session (sessions l) s ≡ true
+  pub left : (s : ℕ) → was_left l s ≡ true → is_active (phase l s) ≡ true
   pub held : (s : ℕ) (i : Item) → is_holding (phase l s) ≡ true → keeps_key l s i ≡ false
 
 -- ---- tables
@@ -86,3 +88,31 @@ pub record TablesOf (at : Tables) (a : Member) : Type 0 where
   pub rows_seen : (s : ℕ) (i : Item) → is_active (phase a.life s) ≡ true → row_at at.store i (begun_set a.life s) ≡ row_of a.life (begun_set a.life s) i
   pub places : (i : Item) → place_at at.locks.places i ≡ place_holder a.life i (queue a.life a.me.inc)
   pub locks : LocksOf at.locks a.life
+
+-- ---- what changes where a session's transaction stands
+
+-- a begin, a change, a commit that is asked, an end, a place that is done, ERROR
+abbrev pub touches : Did → Bool
+touches Founds = false
+touches (Starts d) = false
+touches (Came e) = false
+touches (Made v b) = false
+touches (Took e) = false
+touches (Skips t v) = false
+touches (Done p) = true
+touches (Committed g) = false
+touches (Is Error c) = true
+touches (Is Offline c) = false
+touches (Is Recovering c) = false
+touches (Is Online c) = false
+touches (Gave p n) = false
+touches (Answered s x) = false
+touches (Begun s e y) = true
+touches (Changed s c) = true
+touches (Replied r) = false
+touches (Called s v w) = true
+touches (AsksCommit s i) = true
+touches (Ends s) = true
+touches (Enters w) = false
+touches (Restores g cs) = false
+touches AskFails = false

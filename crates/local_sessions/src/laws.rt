@@ -1,15 +1,38 @@
 // The sessions of a member stand for its history.
-ghost use Rattle.std.specs.Prelude.{◌≡◌, ℕ, List};
+ghost use Rattle.std.specs.Prelude.{◌≡◌, ◌∷◌, ℕ, [], List, None, Option, Some, true, false};
 ghost use Rattle.group_rules.specs.declared.requests.Request.{Request};
+ghost use Rattle.gr_ids.specs.declared.levels.Level.{Level};
+ghost use Rattle.gr_ids.specs.declared.names.ValueId.{ValueId};
+ghost use Rattle.gtid_sets.specs.Sets.{Gtids};
+ghost use Rattle.key_items.specs.declared.change.Change.{Change};
+ghost use Rattle.group_rules.specs.Events.{AsksCommit, Begun, Called, Changed, Did, Ends as EndsIn, Life};
+ghost use Rattle.group_rules.specs.Life.{state};
+ghost use Rattle.group_rules.specs.Holds.{is_after};
 ghost use Rattle.group_rules.specs.Member.{Member as AnyMember};
 ghost use Rattle.group_rules.specs.Calls.{call};
 ghost use Rattle.local_sessions.specs.declared.tables.Tables.{Tables as AnyTables};
-ghost use Rattle.local_sessions.specs.Standing.{Session, session_in};
-ghost use Rattle.local_sessions.specs.Following.{StandFor, TablesOf};
+ghost use Rattle.local_sessions.specs.Standing.{Active, Asking, Session, at_stage, begins, changed_at, is_held, session_in, stage_of};
+ghost use Rattle.local_sessions.specs.Replies.{Asks, Ends, Holds, Writing, sessions_after};
+ghost use Rattle.local_sessions.specs.Following.{StandFor, TablesOf, touches};
 ghost use Rattle.local_sessions.specs.Acting.{after_reply, reply_to};
 
 /// Where the sessions and the tables stand for a history, the reply to each call is what the rules of the group give.
 pub fn replies_are_those_of_the_rules()
     ensures { (xs : List Session) (at : AnyTables) (a : AnyMember) (s : ℕ) (r : Request) → StandFor xs a.life → TablesOf at a
         → call s r a ≡ after_reply s r (reply_to at (session_in xs s) r) a }
+{}
+
+/// The sessions stand for their history: they begin as those of no history, and each thing that happens makes them those of the longer one.
+pub fn sessions_follow_their_history()
+    ensures none { StandFor [] [] }
+    ensures passed { (xs : List Session) (l : Life) (d : Did) → touches d ≡ false → StandFor xs l → StandFor xs (d ∷ l) }
+    ensures called { (xs : List Session) (l : Life) (s : ℕ) (v : Level) (w : ℕ) → StandFor xs l → session_in xs s ≡ None
+        → StandFor (sessions_after (Holds (is_after v) (state l)) s xs) (Called s v w ∷ l) }
+    ensures begun { (xs : List Session) (l : Life) (s : ℕ) (e : Gtids) (y : Option ℕ) → StandFor xs l → is_held (session_in xs s) ≡ true
+        → StandFor (changed_at s (begins e) xs) (Begun s e y ∷ l) }
+    ensures changed { (xs : List Session) (l : Life) (s : ℕ) (c : Change) → StandFor xs l → stage_of (session_in xs s) ≡ Some Active
+        → StandFor (sessions_after (Writing c) s xs) (Changed s c ∷ l) }
+    ensures asked { (xs : List Session) (l : Life) (s : ℕ) (i : ValueId) → StandFor xs l → stage_of (session_in xs s) ≡ Some Active
+        → StandFor (changed_at s (at_stage (Asking i)) (sessions_after Asks s xs)) (AsksCommit s i ∷ l) }
+    ensures ended { (xs : List Session) (l : Life) (s : ℕ) → StandFor xs l → StandFor (sessions_after Ends s xs) (EndsIn s ∷ l) }
 {}
