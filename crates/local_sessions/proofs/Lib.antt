@@ -11,3 +11,4 @@ pub mod Holders
 pub mod Replying
 pub mod Finding
 pub mod Passing
+pub mod KeyHolders

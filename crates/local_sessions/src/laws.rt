@@ -4,16 +4,22 @@ ghost use Rattle.group_rules.specs.declared.requests.Request.{Request};
 ghost use Rattle.gr_ids.specs.declared.levels.Level.{Level};
 ghost use Rattle.gr_ids.specs.declared.names.ValueId.{ValueId};
 ghost use Rattle.gtid_sets.specs.Sets.{Gtids};
+ghost use Rattle.key_items.specs.declared.item.Item.{Item};
 ghost use Rattle.key_items.specs.declared.change.Change.{Change};
-ghost use Rattle.group_rules.specs.Events.{AsksCommit, Begun, Called, Changed, Did, Ends as EndsIn, Life};
+ghost use Rattle.group_rules.specs.Events.{AsksCommit, Begun, Called, Changed, Did, Ends as EndsIn, Is, Life};
 ghost use Rattle.group_rules.specs.Life.{state};
 ghost use Rattle.group_rules.specs.Holds.{is_after};
 ghost use Rattle.group_rules.specs.Member.{Member as AnyMember};
+ghost use Rattle.group_rules.specs.declared.marks.Cause.{Cause as AnyCause};
+ghost use Rattle.gr_ids.specs.declared.levels.MemberState.TheVariants.{Error};
+ghost use Rattle.group_rules.specs.Sessions.{is_active, is_holding, phase};
+ghost use Rattle.group_rules.specs.Keys.{killed, was_left};
 ghost use Rattle.group_rules.specs.Calls.{call};
+ghost use Rattle.row_locks.specs.Locking.{Locked, other_session, session_at};
 ghost use Rattle.local_sessions.specs.declared.tables.Tables.{Tables as AnyTables};
 ghost use Rattle.local_sessions.specs.Standing.{Active, Asking, Session, at_stage, begins, changed_at, is_held, session_in, stage_of};
-ghost use Rattle.local_sessions.specs.Replies.{Asks, Ends, Holds, Writing, sessions_after};
-ghost use Rattle.local_sessions.specs.Following.{StandFor, TablesOf, touches};
+ghost use Rattle.local_sessions.specs.Replies.{Asks, Ends, Holds, Writing, keys_after, sessions_after};
+ghost use Rattle.local_sessions.specs.Following.{LocksOf, StandFor, TablesOf, is_free, touches};
 ghost use Rattle.local_sessions.specs.Acting.{after_reply, reply_to};
 
 /// Where the sessions and the tables stand for a history, the reply to each call is what the rules of the group give.
@@ -35,4 +41,19 @@ pub fn sessions_follow_their_history()
     ensures asked { (xs : List Session) (l : Life) (s : ℕ) (i : ValueId) → StandFor xs l → stage_of (session_in xs s) ≡ Some Active
         → StandFor (changed_at s (at_stage (Asking i)) (sessions_after Asks s xs)) (AsksCommit s i ∷ l) }
     ensures ended { (xs : List Session) (l : Life) (s : ℕ) → StandFor xs l → StandFor (sessions_after Ends s xs) (EndsIn s ∷ l) }
+{}
+
+/// The locks stand for the history: who holds which key is what the history says, from the beginning on and after each thing that happens.
+pub fn locks_follow_their_history()
+    ensures passed { (k : Locked) (l : Life) (d : Did) → touches d ≡ false → LocksOf k l → LocksOf k (d ∷ l) }
+    ensures fallen { (k : Locked) (l : Life) (c : AnyCause) → LocksOf k l → LocksOf k (Is Error c ∷ l) }
+    ensures called { (k : Locked) (l : Life) (s : ℕ) (v : Level) (w : ℕ) → LocksOf k l → is_free (phase l s) ≡ true → LocksOf k (Called s v w ∷ l) }
+    ensures begun { (k : Locked) (l : Life) (s : ℕ) (e : Gtids) (y : Option ℕ) → LocksOf k l → is_holding (phase l s) ≡ true → LocksOf k (Begun s e y ∷ l) }
+    ensures changed { (k now : Locked) (l : Life) (s : ℕ) (c : Change) → LocksOf k l → is_active (phase l s) ≡ true → killed l s ≡ None
+        → other_session s (session_at k.keys c.item) ≡ None → ((j : Item) → session_at now.keys j ≡ keys_after (Writing c) s (session_at k.keys) j)
+        → LocksOf now (Changed s c ∷ l) }
+    ensures asked { (k : Locked) (l : Life) (s : ℕ) (i : ValueId) → LocksOf k l → is_active (phase l s) ≡ true → killed l s ≡ None → was_left l s ≡ false
+        → LocksOf k (AsksCommit s i ∷ l) }
+    ensures ended { (k now : Locked) (l : Life) (s : ℕ) → LocksOf k l → ((j : Item) → session_at now.keys j ≡ keys_after Ends s (session_at k.keys) j)
+        → LocksOf now (EndsIn s ∷ l) }
 {}

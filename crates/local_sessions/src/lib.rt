@@ -22,7 +22,7 @@ mod told;
 mod writing;
 
 pub use commit_step::CommitStep;
-pub use laws::{replies_are_those_of_the_rules, sessions_follow_their_history};
+pub use laws::{locks_follow_their_history, replies_are_those_of_the_rules, sessions_follow_their_history};
 pub use sessions::Sessions;
 pub use tables::Tables;
 pub use told::{Answered, TakenOwn};
