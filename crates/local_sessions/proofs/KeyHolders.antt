@@ -73,7 +73,7 @@ idle l s i a b = rw (holds_key, a, b) refl
 
 -- ---- begins
 
-has_number : (ss : List ℕ) (s t : ℕ) → has_session (with_number ss s) t ≡ ((s == t) || has_session ss t)
+pub has_number : (ss : List ℕ) (s t : ℕ) → has_session (with_number ss s) t ≡ ((s == t) || has_session ss t)
 has_number [] s t = refl
 has_number (x ∷ xs) s t = go (nat_lt s x) (s == x) refl refl (has_number xs s t)
   where
@@ -121,7 +121,7 @@ held_phase IsHolding h = refl
 held_phase IsActive h = absurd (true≢false (sym h))
 held_phase (IsAsking i) h = absurd (true≢false (sym h))
 
-active_phase : (p : Phase) → is_active p ≡ true → p ≡ IsActive
+pub active_phase : (p : Phase) → is_active p ≡ true → p ≡ IsActive
 active_phase IsFree h = absurd (true≢false (sym h))
 active_phase IsHolding h = absurd (true≢false (sym h))
 active_phase IsActive h = refl

@@ -12,3 +12,4 @@ pub mod Replying
 pub mod Finding
 pub mod Passing
 pub mod KeyHolders
+pub mod Killing

@@ -1,13 +1,14 @@
 // The sessions of a member stand for its history.
-ghost use Rattle.std.specs.Prelude.{◌≡◌, ◌∷◌, ℕ, [], List, None, Option, Some, true, false};
+ghost use Rattle.std.specs.Prelude.{◌≡◌, ◌∷◌, ℕ, [], List, None, Option, Some, map, true, false};
 ghost use Rattle.group_rules.specs.declared.requests.Request.{Request};
 ghost use Rattle.gr_ids.specs.declared.levels.Level.{Level};
 ghost use Rattle.gr_ids.specs.declared.names.ValueId.{ValueId};
 ghost use Rattle.gtid_sets.specs.Sets.{Gtids};
 ghost use Rattle.key_items.specs.declared.item.Item.{Item};
 ghost use Rattle.key_items.specs.declared.change.Change.{Change};
-ghost use Rattle.group_rules.specs.Events.{AsksCommit, Begun, Called, Changed, Did, Ends as EndsIn, Is, Life};
-ghost use Rattle.group_rules.specs.Life.{state};
+ghost use Rattle.group_rules.specs.Events.{AsksCommit, Begun, Called, Cert, Changed, Did, Done, Ends as EndsIn, Is, Life};
+ghost use Rattle.group_rules.specs.Life.{certs, state};
+ghost use Rattle.group_rules.specs.Queue.{at_place};
 ghost use Rattle.group_rules.specs.Holds.{is_after};
 ghost use Rattle.group_rules.specs.Member.{Member as AnyMember};
 ghost use Rattle.group_rules.specs.declared.marks.Cause.{Cause as AnyCause};
@@ -15,10 +16,11 @@ ghost use Rattle.gr_ids.specs.declared.levels.MemberState.TheVariants.{Error};
 ghost use Rattle.group_rules.specs.Sessions.{is_active, is_holding, phase};
 ghost use Rattle.group_rules.specs.Keys.{killed, was_left};
 ghost use Rattle.group_rules.specs.Calls.{call};
-ghost use Rattle.row_locks.specs.Locking.{Locked, other_session, session_at};
+ghost use Rattle.row_locks.specs.Locking.{Locked, holders_of, other_session, session_at, taken_over};
 ghost use Rattle.local_sessions.specs.declared.tables.Tables.{Tables as AnyTables};
 ghost use Rattle.local_sessions.specs.Standing.{Active, Asking, Session, at_stage, begins, changed_at, is_held, session_in, stage_of};
 ghost use Rattle.local_sessions.specs.Replies.{Asks, Ends, Holds, Writing, keys_after, sessions_after};
+ghost use Rattle.local_sessions.specs.Others.{killed_by, unless_killed};
 ghost use Rattle.local_sessions.specs.Following.{LocksOf, StandFor, TablesOf, is_free, touches};
 ghost use Rattle.local_sessions.specs.Acting.{after_reply, reply_to};
 
@@ -41,6 +43,8 @@ pub fn sessions_follow_their_history()
     ensures asked { (xs : List Session) (l : Life) (s : ℕ) (i : ValueId) → StandFor xs l → stage_of (session_in xs s) ≡ Some Active
         → StandFor (changed_at s (at_stage (Asking i)) (sessions_after Asks s xs)) (AsksCommit s i ∷ l) }
     ensures ended { (xs : List Session) (l : Life) (s : ℕ) → StandFor xs l → StandFor (sessions_after Ends s xs) (EndsIn s ∷ l) }
+    ensures done { (xs : List Session) (k : Locked) (l : Life) (p : ℕ) (c : Cert) → StandFor xs l → LocksOf k l → at_place (certs l) p ≡ Some c
+        → StandFor (map (killed_by c.gtid (holders_of k.keys c.txn.items)) xs) (Done p ∷ l) }
 {}
 
 /// The locks stand for the history: who holds which key is what the history says, from the beginning on and after each thing that happens.
@@ -56,4 +60,7 @@ pub fn locks_follow_their_history()
         → LocksOf k (AsksCommit s i ∷ l) }
     ensures ended { (k now : Locked) (l : Life) (s : ℕ) → LocksOf k l → ((j : Item) → session_at now.keys j ≡ keys_after Ends s (session_at k.keys) j)
         → LocksOf now (EndsIn s ∷ l) }
+    ensures done { (xs : List Session) (k now : Locked) (l : Life) (p : ℕ) (c : Cert) → StandFor xs l → LocksOf k l → at_place (certs l) p ≡ Some c
+        → ((j : Item) → session_at now.keys j ≡ unless_killed xs (holders_of k.keys c.txn.items) (taken_over c.txn.items (session_at k.keys) j))
+        → LocksOf now (Done p ∷ l) }
 {}

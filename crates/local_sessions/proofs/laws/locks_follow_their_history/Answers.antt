@@ -1,4 +1,5 @@
 -- One thing more in the history.
+use Rattle.local_sessions.proofs.Killing.{freed}
 use Rattle.local_sessions.proofs.KeyHolders.{passed, fallen, called, begun, changed, asked, ended}
 use Rattle.local_sessions.proofs.laws.locks_follow_their_history.Goals as goal
 
@@ -22,3 +23,6 @@ returns-clause-asked c k l s i o h a b = asked k l s i o h a b
 
 pub returns-clause-ended : goal.returns-clause-ended
 returns-clause-ended c k now l s o e = ended k now l s o e
+
+pub returns-clause-done : goal.returns-clause-done
+returns-clause-done c xs k now l p x f o e d = freed xs k l p x f o e now d

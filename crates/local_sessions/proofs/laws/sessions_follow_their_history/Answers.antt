@@ -1,4 +1,5 @@
 -- One thing more in the history.
+use Rattle.local_sessions.proofs.Killing.{done}
 use Rattle.local_sessions.proofs.Passing.{none, passed, called, begun, changed, asked, ended}
 use Rattle.local_sessions.proofs.laws.sessions_follow_their_history.Goals as goal
 
@@ -22,3 +23,6 @@ returns-clause-asked c xs l s i f h = asked xs l s i f h
 
 pub returns-clause-ended : goal.returns-clause-ended
 returns-clause-ended c xs l s f = ended xs l s f
+
+pub returns-clause-done : goal.returns-clause-done
+returns-clause-done c xs k l p x f o e = done xs k l p x f o e
