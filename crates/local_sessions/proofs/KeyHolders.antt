@@ -152,7 +152,7 @@ changed k now l s c o h a n e = record {
   keys = λ i t. ap (λ z. is_holder z t) (e i) ∙ go i t (item_eq c.item i) refl;
   called = o.called;
   left = o.left;
-  held = λ t i. split s t (λ u. is_holding (phase l u) ≡ true → keeps_key (Changed s c ∷ l) u i ≡ false) (λ z. absurd (true≢false (sym (ap is_holding (sym active) ∙ z) ))) (λ m z. rw (keeps_key, m) (o.held t i z));
+  held = λ t i. split s t (λ u. is_holding (phase l u) ≡ true → keeps_key (Changed s c ∷ l) u i ≡ false) (λ z. absurd (true≢false (sym (ap is_holding (sym active) ∙ z)))) (λ m z. rw (keeps_key, m) (o.held t i z));
 }
   where
     me : (s == s) ≡ true

@@ -18,11 +18,15 @@ mod sessions;
 mod sizes;
 mod statements;
 mod tables;
+#[cfg(test)]
+mod tests;
 mod told;
 mod writing;
 
 pub use commit_step::CommitStep;
-pub use laws::{locks_follow_their_history, replies_are_those_of_the_rules, sessions_follow_their_history};
+pub use laws::{
+    locks_follow_their_history, replies_are_those_of_the_rules, sessions_follow_their_history,
+};
 pub use sessions::Sessions;
 pub use tables::Tables;
 pub use told::{Answered, TakenOwn};
