@@ -27,32 +27,32 @@ use Rattle.local_sessions.specs.Following.{Follows, LocksOf, StandFor, is_free, 
 -- ---- what touches no transaction, and ERROR
 
 pub passed : (k : Locked) (l : Life) (d : Did) → touches d ≡ false → LocksOf k l → LocksOf k (d ∷ l)
-passed k l Founds h o = record { keys = o.keys; called = o.called; left = o.left; held = o.held }
-passed k l (Starts d) h o = record { keys = o.keys; called = o.called; left = o.left; held = o.held }
-passed k l (Came e) h o = record { keys = o.keys; called = o.called; left = o.left; held = o.held }
-passed k l (Made v b) h o = record { keys = o.keys; called = o.called; left = o.left; held = o.held }
-passed k l (Took e) h o = record { keys = o.keys; called = o.called; left = o.left; held = o.held }
-passed k l (Skips t v) h o = record { keys = o.keys; called = o.called; left = o.left; held = o.held }
+passed k l Founds h o = record { keys = o.keys; called = o.called; left = o.left; dead = o.dead; held = o.held }
+passed k l (Starts d) h o = record { keys = o.keys; called = o.called; left = o.left; dead = o.dead; held = o.held }
+passed k l (Came e) h o = record { keys = o.keys; called = o.called; left = o.left; dead = o.dead; held = o.held }
+passed k l (Made v b) h o = record { keys = o.keys; called = o.called; left = o.left; dead = o.dead; held = o.held }
+passed k l (Took e) h o = record { keys = o.keys; called = o.called; left = o.left; dead = o.dead; held = o.held }
+passed k l (Skips t v) h o = record { keys = o.keys; called = o.called; left = o.left; dead = o.dead; held = o.held }
 passed k l (Done p) h o = absurd (true≢false h)
-passed k l (Committed g) h o = record { keys = o.keys; called = o.called; left = o.left; held = o.held }
-passed k l (Is Offline c) h o = record { keys = o.keys; called = o.called; left = o.left; held = o.held }
-passed k l (Is Recovering c) h o = record { keys = o.keys; called = o.called; left = o.left; held = o.held }
-passed k l (Is Online c) h o = record { keys = o.keys; called = o.called; left = o.left; held = o.held }
+passed k l (Committed g) h o = record { keys = o.keys; called = o.called; left = o.left; dead = o.dead; held = o.held }
+passed k l (Is Offline c) h o = record { keys = o.keys; called = o.called; left = o.left; dead = o.dead; held = o.held }
+passed k l (Is Recovering c) h o = record { keys = o.keys; called = o.called; left = o.left; dead = o.dead; held = o.held }
+passed k l (Is Online c) h o = record { keys = o.keys; called = o.called; left = o.left; dead = o.dead; held = o.held }
 passed k l (Is Error c) h o = absurd (true≢false h)
-passed k l (Gave p n) h o = record { keys = o.keys; called = o.called; left = o.left; held = o.held }
-passed k l (Answered t x) h o = record { keys = o.keys; called = o.called; left = o.left; held = o.held }
+passed k l (Gave p n) h o = record { keys = o.keys; called = o.called; left = o.left; dead = o.dead; held = o.held }
+passed k l (Answered t x) h o = record { keys = o.keys; called = o.called; left = o.left; dead = o.dead; held = o.held }
 passed k l (Begun t e y) h o = absurd (true≢false h)
 passed k l (Changed t c) h o = absurd (true≢false h)
-passed k l (Replied r) h o = record { keys = o.keys; called = o.called; left = o.left; held = o.held }
+passed k l (Replied r) h o = record { keys = o.keys; called = o.called; left = o.left; dead = o.dead; held = o.held }
 passed k l (Called t v w) h o = absurd (true≢false h)
 passed k l (AsksCommit t i) h o = absurd (true≢false h)
 passed k l (Ends t) h o = absurd (true≢false h)
-passed k l (Enters w) h o = record { keys = o.keys; called = o.called; left = o.left; held = o.held }
-passed k l (Restores g cs) h o = record { keys = o.keys; called = o.called; left = o.left; held = o.held }
-passed k l AskFails h o = record { keys = o.keys; called = o.called; left = o.left; held = o.held }
+passed k l (Enters w) h o = record { keys = o.keys; called = o.called; left = o.left; dead = o.dead; held = o.held }
+passed k l (Restores g cs) h o = record { keys = o.keys; called = o.called; left = o.left; dead = o.dead; held = o.held }
+passed k l AskFails h o = record { keys = o.keys; called = o.called; left = o.left; dead = o.dead; held = o.held }
 
 pub fallen : (k : Locked) (l : Life) (c : Cause) → LocksOf k l → LocksOf k (Is Error c ∷ l)
-fallen k l c o = record { keys = o.keys; called = o.called; left = λ s h. h; held = o.held }
+fallen k l c o = record { keys = o.keys; called = o.called; left = λ s h. h; dead = o.dead; held = o.held }
 
 -- ---- one session, by itself or another one
 
@@ -103,6 +103,7 @@ called k l s v w o h = record {
   keys = λ i t. split s t (λ u. is_holder (session_at k.keys i) u ≡ holds_key (Called s v w ∷ l) i u) (mine i) (λ m. o.keys i t ∙ sym (rw (holds_key, phase, killed, keeps_key, m) refl));
   called = λ t n. has_number (sessions l) s t ∙ split s t (λ u. is_free (phase (Called s v w ∷ l) u) ≡ false → ((s == u) || has_session (sessions l) u) ≡ true) (λ z. rw me refl) (λ m z. rw m (o.called t (rw (phase, m) at z))) n;
   left = λ t. split s t (λ u. was_left (Called s v w ∷ l) u ≡ true → is_active (phase (Called s v w ∷ l) u) ≡ true) (λ z. absurd (true≢false (sym z ∙ rw (was_left, me) refl))) (λ m z. rw (phase, m) (o.left t (rw (was_left, m) at z)));
+  dead = λ t. split s t (λ u. is_some (killed (Called s v w ∷ l) u) ≡ true → is_active (phase (Called s v w ∷ l) u) ≡ true) (λ z. absurd (true≢false (sym z ∙ rw (killed, me) refl))) (λ m z. rw (phase, m) (o.dead t (rw (killed, m) at z)));
   held = λ t i. split s t (λ u. is_holding (phase (Called s v w ∷ l) u) ≡ true → keeps_key (Called s v w ∷ l) u i ≡ false) (λ z. rw (keeps_key, me) refl) (λ m z. rw (keeps_key, m) (o.held t i (rw (phase, m) at z)));
 }
   where
@@ -132,6 +133,7 @@ begun k l s e y o h = record {
   keys = λ i t. split s t (λ u. is_holder (session_at k.keys i) u ≡ holds_key (Begun s e y ∷ l) i u) (mine i) (λ m. o.keys i t ∙ sym (rw (holds_key, phase, m) refl));
   called = λ t. split s t (λ u. is_free (phase (Begun s e y ∷ l) u) ≡ false → has_session (sessions l) u ≡ true) (λ z. o.called s (ap is_free held)) (λ m z. o.called t (rw (phase, m) at z));
   left = λ t. split s t (λ u. was_left l u ≡ true → is_active (phase (Begun s e y ∷ l) u) ≡ true) (λ z. rw (phase, me) refl) (λ m z. rw (phase, m) (o.left t z));
+  dead = λ t. split s t (λ u. is_some (killed l u) ≡ true → is_active (phase (Begun s e y ∷ l) u) ≡ true) (λ z. rw (phase, me) refl) (λ m z. rw (phase, m) (o.dead t z));
   held = λ t i. split s t (λ u. is_holding (phase (Begun s e y ∷ l) u) ≡ true → keeps_key l u i ≡ false) (λ z. o.held s i h) (λ m z. o.held t i (rw (phase, m) at z));
 }
   where
@@ -152,6 +154,7 @@ changed k now l s c o h a n e = record {
   keys = λ i t. ap (λ z. is_holder z t) (e i) ∙ go i t (item_eq c.item i) refl;
   called = o.called;
   left = o.left;
+  dead = o.dead;
   held = λ t i. split s t (λ u. is_holding (phase l u) ≡ true → keeps_key (Changed s c ∷ l) u i ≡ false) (λ z. absurd (true≢false (sym (ap is_holding (sym active) ∙ z)))) (λ m z. rw (keeps_key, m) (o.held t i z));
 }
   where
@@ -195,6 +198,7 @@ asked k l s i o h a b = record {
   keys = λ j t. split s t (λ u. is_holder (session_at k.keys j) u ≡ holds_key (AsksCommit s i ∷ l) j u) (mine j) (λ m. o.keys j t ∙ sym (rw (holds_key, phase, m) refl));
   called = λ t. split s t (λ u. is_free (phase (AsksCommit s i ∷ l) u) ≡ false → has_session (sessions l) u ≡ true) (λ z. o.called s (ap is_free active)) (λ m z. o.called t (rw (phase, m) at z));
   left = λ t. split s t (λ u. was_left l u ≡ true → is_active (phase (AsksCommit s i ∷ l) u) ≡ true) (λ z. absurd (true≢false (sym z ∙ b))) (λ m z. rw (phase, m) (o.left t z));
+  dead = λ t. split s t (λ u. is_some (killed l u) ≡ true → is_active (phase (AsksCommit s i ∷ l) u) ≡ true) (λ z. absurd (true≢false (sym z ∙ rw a refl))) (λ m z. rw (phase, m) (o.dead t z));
   held = λ t j. split s t (λ u. is_holding (phase (AsksCommit s i ∷ l) u) ≡ true → keeps_key l u j ≡ false) (λ z. absurd (true≢false (sym z ∙ rw (phase, me) refl))) (λ m z. o.held t j (rw (phase, m) at z));
 }
   where
@@ -218,6 +222,7 @@ ended k now l s o e = record {
       (λ m. there (session_at k.keys i) t m ∙ (o.keys i t ∙ sym (rw (holds_key, phase, killed, m) refl)));
   called = λ t. split s t (λ u. is_free (phase (Ends s ∷ l) u) ≡ false → has_session (sessions l) u ≡ true) (λ z. absurd (true≢false (sym (rw (phase, me) refl) ∙ z))) (λ m z. o.called t (rw (phase, m) at z));
   left = λ t. split s t (λ u. was_left (Ends s ∷ l) u ≡ true → is_active (phase (Ends s ∷ l) u) ≡ true) (λ z. absurd (true≢false (sym z ∙ rw (was_left, me) refl))) (λ m z. rw (phase, m) (o.left t (rw (was_left, m) at z)));
+  dead = λ t. split s t (λ u. is_some (killed (Ends s ∷ l) u) ≡ true → is_active (phase (Ends s ∷ l) u) ≡ true) (λ z. absurd (true≢false (sym z ∙ rw (killed, me) refl))) (λ m z. rw (phase, m) (o.dead t (rw (killed, m) at z)));
   held = λ t i. split s t (λ u. is_holding (phase (Ends s ∷ l) u) ≡ true → keeps_key l u i ≡ false) (λ z. absurd (true≢false (sym z ∙ rw (phase, me) refl))) (λ m z. o.held t i (rw (phase, m) at z));
 }
   where

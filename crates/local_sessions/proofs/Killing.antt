@@ -172,9 +172,14 @@ module _ (xs : List Session) (k : Locked) (l : Life) (p : ℕ) (c : Cert) (f : S
     keys = λ i t. ap (λ z. is_holder z t) (d i) ∙ key i t (has_item c.txn.items i) refl;
     called = o.called;
     left = o.left;
+    dead = λ t z. dies t z (hit t) refl;
     held = λ t i z. waits t i z (has_item c.txn.items i) refl;
   }
     where
+      dies : (t : ℕ) → is_some (killed (Done p ∷ l) t) ≡ true → (b : Bool) → hit t ≡ b → is_active (phase l t) ≡ true
+      dies t z true n = (and_parts (is_active (phase l t)) (not (is_some (killed l t))) (sym (loses_is t) ∙ (and_parts (has_session ss t) (loses xs t) n).1)).0
+      dies t z false n = let same : killed (Done p ∷ l) t ≡ killed l t = killed_then t ∙ rw n refl in o.dead t (ap is_some (sym same) ∙ z)
+
       key : (i : Item) (t : ℕ) (b : Bool) → has_item c.txn.items i ≡ b → is_holder (unless_killed xs ss (taken_over c.txn.items (session_at k.keys) i)) t ≡ holds_key (Done p ∷ l) i t
       key i t true n =
           let over : holds_key (Done p ∷ l) i t ≡ false = rw (holds_key, keeps_key, e, n) (and_false (is_asking (phase l t) || (is_active (phase l t) && not (is_some (killed (Done p ∷ l) t))))) in

@@ -13,3 +13,4 @@ pub mod Finding
 pub mod Passing
 pub mod KeyHolders
 pub mod Killing
+pub mod Deciding

@@ -21,7 +21,7 @@ on_top x (y ∷ ys) = refl
 put : (x : Session) (xs : List Session) → tops x.session xs ≡ true → ascend xs ≡ true → ascend (x ∷ xs) ≡ true
 put x xs h k = on_top x xs ∙ rw h k
 
-parts : (x : Session) (xs : List Session) → ascend (x ∷ xs) ≡ true → (tops x.session xs ≡ true) × (ascend xs ≡ true)
+pub parts : (x : Session) (xs : List Session) → ascend (x ∷ xs) ≡ true → (tops x.session xs ≡ true) × (ascend xs ≡ true)
 parts x xs h = and_parts (tops x.session xs) (ascend xs) (sym (on_top x xs) ∙ h)
 
 lt_trans : (a b c : ℕ) → nat_lt a b ≡ true → nat_lt b c ≡ true → nat_lt a c ≡ true

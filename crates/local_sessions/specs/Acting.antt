@@ -1,7 +1,8 @@
 -- What a reply is to the history of its member.
-use Rattle.std.specs.Prelude.{ℕ, Option, List}
+use Rattle.std.specs.Prelude.{ℕ, Option, Some, None, List}
 use Rattle.key_items.specs.declared.change.Change.{Change}
 use Rattle.key_items.specs.declared.change.ChangeKind.TheVariants.{Insert as Inserts, Update as Updates, Delete as Deletes}
+use Rattle.group_rules.specs.declared.answers.Answer.{Answer}
 use Rattle.group_rules.specs.declared.requests.Request.{Request}
 use Rattle.group_rules.specs.declared.requests.Request.TheVariants.{Begin, Get, Insert, Update, Delete, Commit, Rollback}
 use Rattle.group_rules.specs.Events.{Called, Changed}
@@ -40,3 +41,8 @@ done_by s r (Said x) Asks a = a
 -- what a reply leaves of the member
 abbrev pub after_reply : ℕ → Request → Reply → Member → Member
 after_reply s r q a = done_by s r q.answer q.deed a
+
+-- the answer that ends a session's transaction, if one is named
+abbrev pub told_to : Option Session → Answer → Member → Member
+told_to None x a = a
+told_to (Some y) x a = last_answer y.session x a

@@ -1,6 +1,8 @@
 -- How the sessions of a member, and the tables that they read and write, stand for a history of the group's rules.
-use Rattle.std.specs.Prelude.{◌≡◌, ℕ, Bool, true, false, Option, Some, None, List, ◌==◌, IfSome}
+use Rattle.std.specs.Prelude.{◌≡◌, is_some, ℕ, Bool, true, false, Option, Some, None, List, ◌==◌, IfSome}
+use Rattle.gr_ids.specs.Names.{id_eq}
 use Rattle.gr_ids.specs.declared.names.Gtid.{Gtid}
+use Rattle.gr_ids.specs.declared.names.ValueId.{ValueId}
 use Rattle.key_items.specs.declared.item.Item.{Item}
 use Rattle.group_rules.specs.View.{View}
 use Rattle.gr_ids.specs.declared.levels.MemberState.TheVariants.{Error, Offline, Online, Recovering}
@@ -68,11 +70,20 @@ abbrev pub is_holder : Option ℕ → ℕ → Bool
 is_holder None s = false
 is_holder (Some t) s = t == s
 
--- who holds which key is what the history says; a session that has a transaction has begun, and a begin that is held holds no key
+-- the session waits for the value
+abbrev pub asks_as : ValueId → Phase → Bool
+asks_as i IsFree = false
+asks_as i IsHolding = false
+asks_as i IsActive = false
+asks_as i (IsAsking j) = id_eq j i
+
+-- who holds which key is what the history says; a session that has a transaction has begun; one that was killed or left is active in the
+-- rules still; and a begin that is held holds no key
 pub record LocksOf (locks : Locked) (l : Life) : Type 0 where
   pub keys : (i : Item) (s : ℕ) → is_holder (session_at locks.keys i) s ≡ holds_key l i s
   pub called : (s : ℕ) → is_free (phase l s) ≡ false → has_session (sessions l) s ≡ true
   pub left : (s : ℕ) → was_left l s ≡ true → is_active (phase l s) ≡ true
+  pub dead : (s : ℕ) → is_some (killed l s) ≡ true → is_active (phase l s) ≡ true
   pub held : (s : ℕ) (i : Item) → is_holding (phase l s) ≡ true → keeps_key l s i ≡ false
 
 -- ---- tables

@@ -2,6 +2,7 @@
 ghost use Rattle.std.specs.Prelude.{◌≡◌, ◌∷◌, ℕ, [], List, None, Option, Some, map, true, false};
 ghost use Rattle.group_rules.specs.declared.requests.Request.{Request};
 ghost use Rattle.gr_ids.specs.declared.levels.Level.{Level};
+ghost use Rattle.gr_ids.specs.declared.names.Gtid.{Gtid};
 ghost use Rattle.gr_ids.specs.declared.names.ValueId.{ValueId};
 ghost use Rattle.gtid_sets.specs.Sets.{Gtids};
 ghost use Rattle.key_items.specs.declared.item.Item.{Item};
@@ -10,19 +11,22 @@ ghost use Rattle.group_rules.specs.Events.{AsksCommit, Begun, Called, Cert, Chan
 ghost use Rattle.group_rules.specs.Life.{certs, state};
 ghost use Rattle.group_rules.specs.Queue.{at_place};
 ghost use Rattle.group_rules.specs.Holds.{is_after};
-ghost use Rattle.group_rules.specs.Member.{Member as AnyMember};
+ghost use Rattle.group_rules.specs.Member.{Member as AnyMember, for_each};
+ghost use Rattle.group_rules.specs.Points.{answer_commit};
+ghost use Rattle.group_rules.specs.Taking.{answer_conflict};
+ghost use Rattle.group_rules.specs.declared.answers.Outcome.TheVariants.{Committed, Conflict};
 ghost use Rattle.group_rules.specs.declared.marks.Cause.{Cause as AnyCause};
 ghost use Rattle.gr_ids.specs.declared.levels.MemberState.TheVariants.{Error};
-ghost use Rattle.group_rules.specs.Sessions.{is_active, is_holding, phase};
+ghost use Rattle.group_rules.specs.Sessions.{is_active, is_holding, phase, sessions};
 ghost use Rattle.group_rules.specs.Keys.{killed, was_left};
 ghost use Rattle.group_rules.specs.Calls.{call};
 ghost use Rattle.row_locks.specs.Locking.{Locked, holders_of, other_session, session_at, taken_over};
 ghost use Rattle.local_sessions.specs.declared.tables.Tables.{Tables as AnyTables};
-ghost use Rattle.local_sessions.specs.Standing.{Active, Asking, Session, at_stage, begins, changed_at, is_held, session_in, stage_of};
+ghost use Rattle.local_sessions.specs.Standing.{Active, Asking, Session, ascend, at_stage, begins, changed_at, is_held, session_in, stage_of};
 ghost use Rattle.local_sessions.specs.Replies.{Asks, Ends, Holds, Writing, keys_after, sessions_after};
-ghost use Rattle.local_sessions.specs.Others.{killed_by, unless_killed};
-ghost use Rattle.local_sessions.specs.Following.{LocksOf, StandFor, TablesOf, is_free, touches};
-ghost use Rattle.local_sessions.specs.Acting.{after_reply, reply_to};
+ghost use Rattle.local_sessions.specs.Others.{answer_of, asking, killed_by, unless_killed};
+ghost use Rattle.local_sessions.specs.Following.{LocksOf, StandFor, TablesOf, asks_as, is_free, touches};
+ghost use Rattle.local_sessions.specs.Acting.{after_reply, reply_to, told_to};
 
 /// Where the sessions and the tables stand for a history, the reply to each call is what the rules of the group give.
 pub fn replies_are_those_of_the_rules()
@@ -63,4 +67,15 @@ pub fn locks_follow_their_history()
     ensures done { (xs : List Session) (k now : Locked) (l : Life) (p : ℕ) (c : Cert) → StandFor xs l → LocksOf k l → at_place (certs l) p ≡ Some c
         → ((j : Item) → session_at now.keys j ≡ unless_killed xs (holders_of k.keys c.txn.items) (taken_over c.txn.items (session_at k.keys) j))
         → LocksOf now (Done p ∷ l) }
+{}
+
+/// Where a value is decided, the session that is answered is the one that the rules of the group answer: each value is waited for by one
+/// session at most.
+pub fn decisions_are_those_of_the_rules()
+    ensures committed { (xs : List Session) (k : Locked) (a : AnyMember) (c : Cert) → ascend xs ≡ true → StandFor xs a.life → LocksOf k a.life
+        → ((s t : ℕ) → asks_as c.id (phase a.life s) ≡ true → asks_as c.id (phase a.life t) ≡ true → t ≡ s)
+        → for_each (answer_commit c) (sessions a.life) a ≡ told_to (asking xs c.id) (answer_of (Committed c.gtid)) a }
+    ensures conflicted { (xs : List Session) (k : Locked) (a : AnyMember) (i : ValueId) (g : Gtid) → ascend xs ≡ true → StandFor xs a.life → LocksOf k a.life
+        → ((s t : ℕ) → asks_as i (phase a.life s) ≡ true → asks_as i (phase a.life t) ≡ true → t ≡ s)
+        → for_each (answer_conflict i g) (sessions a.life) a ≡ told_to (asking xs i) (answer_of (Conflict g)) a }
 {}

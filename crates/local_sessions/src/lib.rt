@@ -25,7 +25,8 @@ mod writing;
 
 pub use commit_step::CommitStep;
 pub use laws::{
-    locks_follow_their_history, replies_are_those_of_the_rules, sessions_follow_their_history,
+    decisions_are_those_of_the_rules, locks_follow_their_history, replies_are_those_of_the_rules,
+    sessions_follow_their_history,
 };
 pub use sessions::Sessions;
 pub use tables::Tables;
