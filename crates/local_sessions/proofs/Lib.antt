@@ -14,3 +14,4 @@ pub mod Passing
 pub mod KeyHolders
 pub mod Killing
 pub mod Deciding
+pub mod Falling

@@ -1,16 +1,22 @@
 -- What a reply is to the history of its member.
-use Rattle.std.specs.Prelude.{ℕ, Option, Some, None, List}
+use Rattle.std.specs.Prelude.{◌≡◌, ℕ, Option, Some, None, List, [], ◌∷◌}
+use Rattle.std.specs.Option.{option_map}
+use Rattle.gr_ids.specs.declared.names.ValueId.{ValueId}
 use Rattle.key_items.specs.declared.change.Change.{Change}
 use Rattle.key_items.specs.declared.change.ChangeKind.TheVariants.{Insert as Inserts, Update as Updates, Delete as Deletes}
 use Rattle.group_rules.specs.declared.answers.Answer.{Answer}
 use Rattle.group_rules.specs.declared.requests.Request.{Request}
 use Rattle.group_rules.specs.declared.requests.Request.TheVariants.{Begin, Get, Insert, Update, Delete, Commit, Rollback}
-use Rattle.group_rules.specs.Events.{Called, Changed}
-use Rattle.group_rules.specs.Member.{Member, answer, last_answer, push}
+use Rattle.group_rules.specs.Events.{Called, Cert, Changed, Life}
+use Rattle.group_rules.specs.Queue.{pending}
+use Rattle.group_rules.specs.Member.{Member, answer, last_answer, push, waiting_as}
 use Rattle.group_rules.specs.Calls.{send_sync, send_txn, txn_of as txn_in}
 use Rattle.local_sessions.specs.declared.tables.Tables.{Tables}
 use Rattle.local_sessions.specs.declared.commit_step.CommitStep.{CommitStep}
 use Rattle.local_sessions.specs.declared.commit_step.CommitStep.TheVariants.{Said, Ready}
+use Rattle.local_sessions.specs.declared.told.Answered.{Answered}
+use Rattle.local_sessions.specs.declared.told.TakenOwn.{TakenOwn}
+use Rattle.local_sessions.specs.Others.{taken_as}
 use Rattle.local_sessions.specs.Standing.{Session}
 use Rattle.local_sessions.specs.Replies.{Asks, Deed, Ends, Holds, Nothing, Reply, Writing, begin, commit, get, rollback, statement}
 
@@ -46,3 +52,12 @@ after_reply s r q a = done_by s r q.answer q.deed a
 abbrev pub told_to : Option Session → Answer → Member → Member
 told_to None x a = a
 told_to (Some y) x a = last_answer y.session x a
+
+-- answers, one after another
+abbrev pub tell : List Answered → Member → Member
+tell [] a = a
+tell (x ∷ xs) a = tell xs (last_answer x.session x.answer a)
+
+-- these are the own transactions that were taken positive and aren't committed
+abbrev pub TakenOf : List TakenOwn → Life → Type 0
+TakenOf ts l = (i : ValueId) → option_map (λ (t : TakenOwn). t.gtid) (taken_as ts i) ≡ option_map (λ (c : Cert). c.gtid) (waiting_as (pending l) i)

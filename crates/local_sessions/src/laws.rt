@@ -11,7 +11,7 @@ ghost use Rattle.group_rules.specs.Events.{AsksCommit, Begun, Called, Cert, Chan
 ghost use Rattle.group_rules.specs.Life.{certs, state};
 ghost use Rattle.group_rules.specs.Queue.{at_place};
 ghost use Rattle.group_rules.specs.Holds.{is_after};
-ghost use Rattle.group_rules.specs.Member.{Member as AnyMember, for_each};
+ghost use Rattle.group_rules.specs.Member.{Member as AnyMember, fall, for_each, push};
 ghost use Rattle.group_rules.specs.Points.{answer_commit};
 ghost use Rattle.group_rules.specs.Taking.{answer_conflict};
 ghost use Rattle.group_rules.specs.declared.answers.Outcome.TheVariants.{Committed, Conflict};
@@ -22,11 +22,12 @@ ghost use Rattle.group_rules.specs.Keys.{killed, was_left};
 ghost use Rattle.group_rules.specs.Calls.{call};
 ghost use Rattle.row_locks.specs.Locking.{Locked, holders_of, other_session, session_at, taken_over};
 ghost use Rattle.local_sessions.specs.declared.tables.Tables.{Tables as AnyTables};
+ghost use Rattle.local_sessions.specs.declared.told.TakenOwn.{TakenOwn};
 ghost use Rattle.local_sessions.specs.Standing.{Active, Asking, Session, ascend, at_stage, begins, changed_at, is_held, session_in, stage_of};
 ghost use Rattle.local_sessions.specs.Replies.{Asks, Ends, Holds, Writing, keys_after, sessions_after};
-ghost use Rattle.local_sessions.specs.Others.{answer_of, asking, killed_by, unless_killed};
+ghost use Rattle.local_sessions.specs.Others.{answer_of, answers_left, asking, killed_by, unless_killed};
 ghost use Rattle.local_sessions.specs.Following.{LocksOf, StandFor, TablesOf, asks_as, is_free, touches};
-ghost use Rattle.local_sessions.specs.Acting.{after_reply, reply_to, told_to};
+ghost use Rattle.local_sessions.specs.Acting.{TakenOf, after_reply, reply_to, tell, told_to};
 
 /// Where the sessions and the tables stand for a history, the reply to each call is what the rules of the group give.
 pub fn replies_are_those_of_the_rules()
@@ -78,4 +79,10 @@ pub fn decisions_are_those_of_the_rules()
     ensures conflicted { (xs : List Session) (k : Locked) (a : AnyMember) (i : ValueId) (g : Gtid) → ascend xs ≡ true → StandFor xs a.life → LocksOf k a.life
         → ((s t : ℕ) → asks_as i (phase a.life s) ≡ true → asks_as i (phase a.life t) ≡ true → t ≡ s)
         → for_each (answer_conflict i g) (sessions a.life) a ≡ told_to (asking xs i) (answer_of (Conflict g)) a }
+{}
+
+/// When the member takes ERROR, its sessions are told what the rules of the group tell them.
+pub fn the_left_are_told_by_the_rules()
+    ensures { (xs : List Session) (k : Locked) (ts : List TakenOwn) (a : AnyMember) (c : AnyCause) → ascend xs ≡ true → StandFor xs a.life → LocksOf k a.life
+        → TakenOf ts a.life → fall c a ≡ tell (answers_left ts xs) (push (Is Error c) a) }
 {}
