@@ -1,23 +1,23 @@
 -- A value is decided: the one session that waits for it is answered.
-use Rattle.std.proofs.Common.{◌≡◌, subst, ℕ, Bool, true, false, ◌&&◌, ◌||◌, not, Option, Some, None, List, [], ◌∷◌, refl, sym, ap, ◌∙◌, arith}
+use Rattle.std.proofs.Common.{◌≡◌, ℕ, Bool, true, false, Option, Some, None, List, [], ◌∷◌, refl, sym, ap, ◌∙◌, arith}
 use Rattle.std.specs.Prelude.{◌==◌, is_some, nat_lt, if◌then◌else◌}
 use Rattle.std.specs.List.{find}
-use Rattle.std.proofs.lemmas.Bool.{and_parts, eqb-true, eqb-false, eq-eqb, ne_eqb, lt-ltb, ltb-true, true≢false}
-use Rattle.gr_ids.specs.Names.{id_eq, inc_eq}
+use Rattle.std.proofs.lemmas.Bool.{eqb-true, eqb-false, eq-eqb, ne_eqb, lt-ltb, ltb-true, true≢false}
+use Rattle.gr_ids.specs.Names.{id_eq}
 use Rattle.gr_ids.specs.declared.names.Gtid.{Gtid}
 use Rattle.gr_ids.specs.declared.names.ValueId.{ValueId}
 use Rattle.group_rules.specs.declared.answers.Answer.{Answer}
 use Rattle.group_rules.specs.declared.answers.Answer.TheVariants.{Committed as CommittedAs, Conflict as ConflictWith}
-use Rattle.group_rules.specs.Events.{Answered, Cert, Ends, Life}
+use Rattle.group_rules.specs.Events.{Cert}
 use Rattle.group_rules.specs.Member.{Member, for_each, last_answer}
-use Rattle.group_rules.specs.Points.{answer_commit, asks_this}
+use Rattle.group_rules.specs.Points.{answer_commit}
 use Rattle.group_rules.specs.Taking.{answer_conflict}
 use Rattle.group_rules.specs.Sessions.{Phase, Free as IsFree, Holding as IsHolding, Active as IsActive, Asking as IsAsking, is_active, phase, sessions}
 use Rattle.group_rules.specs.Keys.{killed, was_left}
 use Rattle.row_locks.specs.Locking.{Locked}
-use Rattle.local_sessions.specs.Standing.{Session, Stage, Holding, Active, WasKilled, WasLeft, Asked, Asking, ascend, is_of, session_in, stage_of}
+use Rattle.local_sessions.specs.Standing.{Session, Stage, ascend, is_of, session_in, stage_of}
 use Rattle.local_sessions.specs.Others.{asking, asks_at, asks_for, has_session}
-use Rattle.local_sessions.specs.Following.{Follows, LocksOf, StandFor, asks_as, is_free, stage_by, stage_from, stage_in}
+use Rattle.local_sessions.specs.Following.{LocksOf, StandFor, asks_as, is_free, stage_in}
 use Rattle.local_sessions.specs.Acting.{told_to}
 use Rattle.local_sessions.proofs.Order.{parts, tops}
 

@@ -1,31 +1,30 @@
 -- A member takes ERROR: who is answered what, and which transactions wait for their next call.
-use Rattle.std.proofs.Common.{◌≡◌, ◌≤◌, ◌<◌, subst, ℕ, Bool, true, false, ◌&&◌, ◌||◌, not, Option, Some, None, List, [], ◌∷◌, ◌++◌, filter, map, refl, sym, ap, ◌∙◌, arith}
-use Rattle.std.specs.Prelude.{◌==◌, is_some, nat_lt, if◌then◌else◌}
+use Rattle.std.proofs.Common.{◌≡◌, ◌≤◌, ◌<◌, ℕ, Bool, true, false, ◌&&◌, ◌||◌, Option, Some, None, List, [], ◌∷◌, ◌++◌, refl, sym, ap, ◌∙◌, arith}
+use Rattle.std.specs.Prelude.{◌==◌, is_some, nat_lt}
 use Rattle.std.specs.Option.{option_map}
-use Rattle.std.proofs.lemmas.Bool.{and_parts, eqb-true, eqb-false, eq-eqb, ne_eqb, lt-ltb, le-ltb, ltb-true, ltb-false, true≢false}
+use Rattle.std.proofs.lemmas.Bool.{and_parts, eqb-true, eqb-false, eq-eqb, ne_eqb, lt-ltb, ltb-true, ltb-false, true≢false}
 use Rattle.gr_ids.specs.declared.levels.MemberState.TheVariants.{Error}
 use Rattle.gr_ids.specs.declared.names.Gtid.{Gtid}
 use Rattle.gr_ids.specs.declared.names.ValueId.{ValueId}
 use Rattle.group_rules.specs.declared.answers.Answer.{Answer}
-use Rattle.group_rules.specs.declared.answers.Answer.TheVariants.{MemberLeft, NotAcknowledged, Undecided}
+use Rattle.group_rules.specs.declared.answers.Answer.TheVariants.{MemberLeft, NotAcknowledged}
 use Rattle.group_rules.specs.declared.marks.Cause.{Cause}
-use Rattle.group_rules.specs.Events.{AskFails, AsksCommit, Answered as AnsweredIn, Begun, Called, Came, Cert, Changed, Committed, Did, Done, Ends, Enters, Founds, Gave, Is, Life, Made, Replied, Restores, Skips, Starts, Took}
+use Rattle.group_rules.specs.Events.{AskFails, AsksCommit, Answered as AnsweredIn, Begun, Called, Came, Cert, Changed, Committed, Done, Ends, Enters, Founds, Gave, Is, Life, Made, Replied, Restores, Skips, Starts, Took}
 use Rattle.group_rules.specs.Member.{Member, fall, for_each, last_answer, leave_session, push, unanswered as unanswered_in, waiting_as}
 use Rattle.group_rules.specs.Queue.{pending}
 use Rattle.group_rules.specs.Sessions.{Phase, Free as IsFree, Holding as IsHolding, Active as IsActive, Asking as IsAsking, is_active, phase, sessions, with_session as with_number}
 use Rattle.group_rules.specs.Keys.{killed, was_left}
 use Rattle.row_locks.specs.Locking.{Locked}
-use Rattle.local_sessions.specs.declared.told.Answered.{Answered}
 use Rattle.local_sessions.specs.declared.told.TakenOwn.{TakenOwn}
-use Rattle.local_sessions.specs.Standing.{Session, Stage, Holding, Active, WasKilled, WasLeft, Asked, Asking, ascend, is_of, session_in, stage_of}
-use Rattle.local_sessions.specs.Others.{answer_at, answer_list, answered, answers_left, has_session, taken_as, unanswered}
-use Rattle.local_sessions.specs.Following.{Follows, LocksOf, StandFor, is_free, stage_by, stage_from, stage_in}
+use Rattle.local_sessions.specs.Standing.{Session, Stage, ascend, is_of, session_in, stage_of}
+use Rattle.local_sessions.specs.Others.{answer_at, answer_list, answers_left, has_session, taken_as, unanswered}
+use Rattle.local_sessions.specs.Following.{LocksOf, StandFor, is_free, stage_in}
 use Rattle.local_sessions.specs.Acting.{tell, TakenOf}
 use Rattle.local_sessions.proofs.KeyHolders.{active_phase}
 use Rattle.local_sessions.proofs.Order.{parts, tops}
 
 -- the answer of a session, by where its transaction stands
-abbrev answer_opt : List TakenOwn → Option Stage → Option Answer
+abbrev pub answer_opt : List TakenOwn → Option Stage → Option Answer
 answer_opt ts None = None
 answer_opt ts (Some g) = answer_at ts g
 
@@ -184,7 +183,7 @@ tops_lower : (s t : ℕ) (xs : List Session) → nat_lt s t ≡ true → tops t 
 tops_lower s t [] h k = refl
 tops_lower s t (x ∷ xs) h k = lt_trans s t x.session h k
 
-none_below : (t : ℕ) (xs : List Session) → tops t xs ≡ true → ascend xs ≡ true → session_in xs t ≡ None
+pub none_below : (t : ℕ) (xs : List Session) → tops t xs ≡ true → ascend xs ≡ true → session_in xs t ≡ None
 none_below t [] h k = refl
 none_below t (x ∷ xs) h k =
     let other : is_of t x ≡ false = ne_eqb x.session t (λ e. let w = ltb-true t x.session h in omega (arith, w, e)) in

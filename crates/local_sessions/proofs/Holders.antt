@@ -1,16 +1,14 @@
 -- The holder of a key is the one that the history names.
-use Rattle.std.proofs.Common.{◌≡◌, ℕ, Bool, true, false, ◌&&◌, ◌||◌, not, Option, Some, None, List, [], ◌∷◌, refl, sym, ap, ◌∙◌}
-use Rattle.std.specs.Prelude.{◌==◌, is_some, if◌then◌else◌}
+use Rattle.std.proofs.Common.{◌≡◌, ℕ, Bool, true, false, ◌&&◌, not, Option, Some, None, List, [], ◌∷◌, refl, sym, ap, ◌∙◌}
+use Rattle.std.specs.Prelude.{◌==◌}
 use Rattle.std.proofs.lemmas.Bool.{eqb-true, eqb-false, eq-eqb, ne_eqb, true≢false}
 use Rattle.key_items.specs.declared.item.Item.{Item}
-use Rattle.group_rules.specs.declared.answers.Holder.{Holder}
 use Rattle.group_rules.specs.declared.answers.Holder.TheVariants.{Session as BySession}
 use Rattle.group_rules.specs.Events.{Life}
 use Rattle.group_rules.specs.Member.{Member}
-use Rattle.group_rules.specs.Queue.{queue}
-use Rattle.group_rules.specs.Sessions.{Phase, Free as IsFree, Holding as IsHolding, Active as IsActive, Asking as IsAsking, is_active, is_asking, phase, sessions}
-use Rattle.group_rules.specs.Keys.{holder, holds_key, keeps_key, killed, or_holder, place_holder, session_holder}
-use Rattle.row_locks.specs.Locking.{Locked, holder_beside, other_session, place_at, session_at}
+use Rattle.group_rules.specs.Sessions.{Phase, Free as IsFree, Holding as IsHolding, Active as IsActive, Asking as IsAsking, phase, sessions}
+use Rattle.group_rules.specs.Keys.{holder, holds_key, session_holder}
+use Rattle.row_locks.specs.Locking.{Locked, holder_beside, other_session, session_at}
 use Rattle.local_sessions.specs.declared.tables.Tables.{Tables}
 use Rattle.local_sessions.specs.Others.{has_session}
 use Rattle.local_sessions.specs.Following.{LocksOf, TablesOf, is_free, is_holder}

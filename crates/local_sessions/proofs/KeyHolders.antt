@@ -1,28 +1,23 @@
 -- One thing more in the history, and who holds which key then.
-use Rattle.std.proofs.Common.{◌≡◌, subst, ℕ, Bool, true, false, ◌&&◌, ◌||◌, not, Option, Some, None, List, [], ◌∷◌, ◌++◌, fold, map, refl, sym, ap, ◌∙◌}
-use Rattle.std.specs.Prelude.{◌==◌, is_some, nat_lt, if◌then◌else◌}
-use Rattle.std.specs.List.{list_any}
-use Rattle.std.proofs.lemmas.Bool.{eqb-true, eqb-false, eq-eqb, ne_eqb, true≢false}
+use Rattle.std.proofs.Common.{◌≡◌, subst, ℕ, Bool, true, false, ◌&&◌, ◌||◌, not, Option, Some, None, List, [], ◌∷◌, refl, sym, ap, ◌∙◌}
+use Rattle.std.specs.Prelude.{◌==◌, is_some, nat_lt}
+use Rattle.std.proofs.lemmas.Bool.{eqb-true, eq-eqb, true≢false}
 use Rattle.gr_ids.specs.declared.levels.Level.{Level}
 use Rattle.gr_ids.specs.declared.levels.MemberState.TheVariants.{Error, Offline, Online, Recovering}
-use Rattle.gr_ids.specs.declared.names.Gtid.{Gtid}
 use Rattle.gr_ids.specs.declared.names.ValueId.{ValueId}
 use Rattle.gtid_sets.specs.Sets.{Gtids}
 use Rattle.key_items.specs.declared.item.Item.{Item}
 use Rattle.key_items.specs.declared.change.Change.{Change}
-use Rattle.key_items.specs.Items.{has_item, item_eq}
+use Rattle.key_items.specs.Items.{item_eq}
 use Rattle.key_items.proofs.Order.{item_eq_same}
 use Rattle.group_rules.specs.declared.answers.Holder.TheVariants.{Session as BySession}
-use Rattle.group_rules.specs.Events.{AskFails, AsksCommit, Answered, Begun, Called, Came, Cert, Changed, Committed, Did, Done, Ends, Enters, Founds, Gave, Is, Life, Made, Replied, Restores, Skips, Starts, Took}
-use Rattle.group_rules.specs.Life.{certs}
-use Rattle.group_rules.specs.Queue.{at_place}
+use Rattle.group_rules.specs.Events.{AskFails, AsksCommit, Answered, Begun, Called, Came, Changed, Committed, Did, Done, Ends, Enters, Founds, Gave, Is, Life, Made, Replied, Restores, Skips, Starts, Took}
 use Rattle.group_rules.specs.Sessions.{Phase, Free as IsFree, Holding as IsHolding, Active as IsActive, Asking as IsAsking, is_active, is_asking, is_holding, phase, sessions, with_session as with_number}
-use Rattle.group_rules.specs.Keys.{hit_by, holds_key, keeps_key, killed, was_left, writes_key}
-use Rattle.row_locks.specs.Locking.{Locked, SessionKey, holders_of, locked_by, other_session, session_at, taken_over, with_loser, without_session}
+use Rattle.group_rules.specs.Keys.{holds_key, keeps_key, killed, was_left}
+use Rattle.row_locks.specs.Locking.{Locked, locked_by, other_session, session_at, without_session}
 use Rattle.group_rules.specs.declared.marks.Cause.{Cause}
-use Rattle.local_sessions.specs.Standing.{Session, Stage, Holding, Active, WasKilled, WasLeft, Asked, Asking, session_in, stage_of}
-use Rattle.local_sessions.specs.Others.{can_lose, has_session, loses, unless_killed}
-use Rattle.local_sessions.specs.Following.{Follows, LocksOf, StandFor, is_free, is_holder, stage_by, stage_from, stage_in, touches}
+use Rattle.local_sessions.specs.Others.{has_session}
+use Rattle.local_sessions.specs.Following.{LocksOf, is_free, is_holder, touches}
 
 -- ---- what touches no transaction, and ERROR
 

@@ -1,6 +1,6 @@
 -- A place that is done takes keys over: who is killed by that, and who holds which key then.
 use Rattle.std.proofs.Common.{◌≡◌, subst, ℕ, Bool, true, false, ◌&&◌, ◌||◌, not, Option, Some, None, List, [], ◌∷◌, fold, map, refl, sym, ap, ◌∙◌}
-use Rattle.std.specs.Prelude.{◌==◌, is_some, if◌then◌else◌, IfSome}
+use Rattle.std.specs.Prelude.{◌==◌, is_some, if◌then◌else◌}
 use Rattle.std.specs.Option.{option_map}
 use Rattle.std.specs.List.{list_any}
 use Rattle.std.proofs.lemmas.Bool.{and_parts, eqb-true, true≢false}
@@ -11,11 +11,11 @@ use Rattle.group_rules.specs.Events.{Cert, Done, Life}
 use Rattle.group_rules.specs.Life.{certs}
 use Rattle.group_rules.specs.Queue.{at_place}
 use Rattle.group_rules.specs.Sessions.{Phase, Free as IsFree, Holding as IsHolding, Active as IsActive, Asking as IsAsking, is_active, is_asking, is_holding, phase}
-use Rattle.group_rules.specs.Keys.{hit_by, holds_key, keeps_key, killed, was_left, writes_key}
+use Rattle.group_rules.specs.Keys.{hit_by, holds_key, keeps_key, killed, was_left}
 use Rattle.row_locks.specs.Locking.{Locked, SessionKey, holders_of, session_at, taken_over, with_loser}
-use Rattle.local_sessions.specs.Standing.{Session, Stage, Holding, Active, WasKilled, WasLeft, Asked, Asking, at_stage, session_in, stage_of}
+use Rattle.local_sessions.specs.Standing.{Session, Stage, Active, WasKilled, at_stage, session_in, stage_of}
 use Rattle.local_sessions.specs.Others.{can_lose, has_session, killed_by, loses, unless_killed}
-use Rattle.local_sessions.specs.Following.{Follows, LocksOf, StandFor, has_changes, is_holder, stage_by, stage_from, stage_in}
+use Rattle.local_sessions.specs.Following.{Follows, LocksOf, StandFor, is_holder, stage_from, stage_in}
 use Rattle.local_sessions.proofs.Active.{found_is}
 use Rattle.local_sessions.proofs.Finding.{map_in}
 use Rattle.local_sessions.proofs.Order.{killed_keeps}

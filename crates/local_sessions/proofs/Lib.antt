@@ -15,3 +15,4 @@ pub mod KeyHolders
 pub mod Killing
 pub mod Deciding
 pub mod Falling
+pub mod Remaining

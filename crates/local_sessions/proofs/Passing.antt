@@ -1,10 +1,9 @@
 -- One thing more in the history, and where each session's transaction stands then.
-use Rattle.std.proofs.Common.{◌≡◌, subst, ℕ, Bool, true, false, ◌&&◌, ◌||◌, not, Option, Some, None, List, [], ◌∷◌, ◌++◌, map, refl, sym, ap, ◌∙◌}
-use Rattle.std.specs.Prelude.{◌==◌, is_some, if◌then◌else◌, IfSome}
+use Rattle.std.proofs.Common.{◌≡◌, subst, ℕ, Bool, true, false, Option, Some, None, List, [], ◌∷◌, ◌++◌, refl, sym, ap, ◌∙◌}
+use Rattle.std.specs.Prelude.{◌==◌}
 use Rattle.std.specs.Option.{option_map}
-use Rattle.std.proofs.lemmas.Bool.{eqb-true, eqb-false, eq-eqb, ne_eqb, true≢false}
+use Rattle.std.proofs.lemmas.Bool.{eqb-true, eq-eqb, true≢false}
 use Rattle.gr_ids.specs.declared.levels.Level.{Level}
-use Rattle.gr_ids.specs.declared.levels.MemberState.{MemberState}
 use Rattle.gr_ids.specs.declared.levels.MemberState.TheVariants.{Error, Offline, Online, Recovering}
 use Rattle.gr_ids.specs.declared.names.Gtid.{Gtid}
 use Rattle.gr_ids.specs.declared.names.ValueId.{ValueId}
@@ -13,13 +12,13 @@ use Rattle.key_items.specs.declared.change.Change.{Change}
 use Rattle.group_rules.specs.Events.{AskFails, AsksCommit, Answered, Begun, Called, Came, Calls, Changed, Committed, Did, Done, Ends, Enters, Founds, Gave, Hears, Is, Life, Made, Operates, Replied, Restores, Skips, Starts, Ticks, Took, Works}
 use Rattle.group_rules.specs.Life.{state}
 use Rattle.group_rules.specs.Holds.{is_after}
-use Rattle.group_rules.specs.Sessions.{Call, Phase, Free as IsFree, Holding as IsHolding, Active as IsActive, Asking as IsAsking, begun_set, changes, is_active, last_call, one_tick, phase}
+use Rattle.group_rules.specs.Sessions.{Call, begun_set, changes, last_call, one_tick, phase}
 use Rattle.group_rules.specs.Keys.{killed, was_left}
 use Rattle.group_rules.specs.Calls.{is_after_call, state_then}
 use Rattle.local_sessions.specs.Standing.{Session, Stage, is_of, Holding, Active, WasKilled, WasLeft, Asked, Asking, asks, at_stage, begins, changed_at, is_held, new_hold, session_in, stage_of, with_change, with_session, without}
-use Rattle.local_sessions.specs.Following.{Follows, StandFor, has_changes, stage_by, stage_from, stage_in, touches}
+use Rattle.local_sessions.specs.Following.{Follows, StandFor, has_changes, stage_in, touches}
 use Rattle.local_sessions.proofs.Order.{Keeps}
-use Rattle.local_sessions.proofs.Finding.{changed_same, changed_other, without_same, without_other, with_same, with_other, map_in}
+use Rattle.local_sessions.proofs.Finding.{changed_same, changed_other, without_same, without_other, with_same, with_other}
 
 -- ---- the same transaction, seen by another history
 

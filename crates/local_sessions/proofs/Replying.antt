@@ -1,8 +1,6 @@
 -- The reply to each call, case by case.
 use Rattle.std.proofs.Common.{◌≡◌, ℕ, Bool, true, false, ◌&&◌, not, Option, Some, None, List, [], ◌∷◌, length, refl, sym, ap, ◌∙◌}
-use Rattle.std.specs.Prelude.{nat_lt, IfSome}
-use Rattle.gr_ids.specs.Names.{is_inc}
-use Rattle.gr_ids.specs.declared.levels.Level.{Level}
+use Rattle.std.specs.Prelude.{nat_lt}
 use Rattle.gr_ids.specs.declared.names.Gtid.{Gtid}
 use Rattle.gtid_sets.specs.Sets.{Gtids}
 use Rattle.key_items.specs.declared.item.Item.{Item}
@@ -12,25 +10,21 @@ use Rattle.txn_forms.specs.declared.body.Txn.{Txn}
 use Rattle.txn_forms.specs.declared.body.Body.TheVariants.{Txn as Writes}
 use Rattle.txn_forms.specs.Bodies.{body_bytes}
 use Rattle.group_rules.specs.declared.answers.Holder.{Holder}
-use Rattle.group_rules.specs.declared.answers.Answer.{Answer}
-use Rattle.group_rules.specs.declared.answers.Answer.TheVariants.{Busy, Got, Killed, MemberLeft, NoTransaction, NotOnline, ReadOnly, RowLocked}
+use Rattle.group_rules.specs.declared.answers.Answer.TheVariants.{Busy, Got, Killed, MemberLeft, NotOnline, ReadOnly}
 use Rattle.group_rules.specs.declared.requests.Request.{Request}
 use Rattle.group_rules.specs.declared.requests.Request.TheVariants.{Begin, Get, Insert, Update, Delete, Commit, Rollback}
-use Rattle.group_rules.specs.View.{is_single}
-use Rattle.group_rules.specs.Events.{Life}
-use Rattle.group_rules.specs.Life.{executed, is_up, state, view}
+use Rattle.group_rules.specs.Life.{executed, is_up, state}
 use Rattle.group_rules.specs.Member.{Member, answer, last_answer}
 use Rattle.group_rules.specs.Sessions.{Phase, Free as IsFree, Holding as IsHolding, Active as IsActive, Asking as IsAsking, begun_set, changes, is_active, last_call, phase}
 use Rattle.group_rules.specs.Keys.{holder, killed, was_left}
 use Rattle.group_rules.specs.Rows.{changed_row, fits, row_now as row_now_in, row_of, row_then}
-use Rattle.group_rules.specs.Calls.{begin as begin_in, change_row as change_row_in, by_phase, call, commit_bytes as commit_bytes_in, commit_changes as commit_changes_in, in_transaction, is_after_call, is_read_only as is_read_only_in, items_of, misfit, read_only, state_then, statement as statement_in_rules, txn_of as txn_in, unless_killed, unless_locked as unless_locked_in, wants_online, without_transaction}
+use Rattle.group_rules.specs.Calls.{begin as begin_in, change_row as change_row_in, call, commit_bytes as commit_bytes_in, commit_changes as commit_changes_in, in_transaction, is_after_call, is_read_only as is_read_only_in, items_of, state_then, statement as statement_in_rules, txn_of as txn_in, unless_killed, wants_online, without_transaction}
 use Rattle.row_locks.specs.Locking.{holder_beside}
 use Rattle.row_store.specs.Chains.{row_at, row_now, row_own}
 use Rattle.local_sessions.specs.declared.tables.Tables.{Tables}
-use Rattle.local_sessions.specs.declared.commit_step.CommitStep.TheVariants.{Said, Ready}
-use Rattle.local_sessions.specs.Standing.{Session, Stage, Holding, Active, WasKilled, WasLeft, Asked, Asking, session_in, stage_of}
-use Rattle.local_sessions.specs.Replies.{Reply, begin, begin_free, bar_at, change_row, commit_bytes, commit_changes, ends, is_read_only, reply_or, statement_in, stays, txn_of, unless_barred, unless_locked}
-use Rattle.local_sessions.specs.Following.{Follows, StandFor, TablesOf, stage_from, stage_in, has_changes}
+use Rattle.local_sessions.specs.Standing.{Session, Stage, Holding, Active, WasKilled, WasLeft, Asking, session_in, stage_of}
+use Rattle.local_sessions.specs.Replies.{Reply, begin_free, bar_at, change_row, commit_bytes, commit_changes, ends, is_read_only, statement_in, stays, txn_of}
+use Rattle.local_sessions.specs.Following.{StandFor, TablesOf, stage_in, has_changes}
 use Rattle.local_sessions.specs.Acting.{after_reply, reply_to}
 use Rattle.local_sessions.proofs.Active.{found_is}
 use Rattle.local_sessions.proofs.Holders.{same_holder}

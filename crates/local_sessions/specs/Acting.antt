@@ -2,7 +2,6 @@
 use Rattle.std.specs.Prelude.{◌≡◌, ℕ, Option, Some, None, List, [], ◌∷◌}
 use Rattle.std.specs.Option.{option_map}
 use Rattle.gr_ids.specs.declared.names.ValueId.{ValueId}
-use Rattle.key_items.specs.declared.change.Change.{Change}
 use Rattle.key_items.specs.declared.change.ChangeKind.TheVariants.{Insert as Inserts, Update as Updates, Delete as Deletes}
 use Rattle.group_rules.specs.declared.answers.Answer.{Answer}
 use Rattle.group_rules.specs.declared.requests.Request.{Request}

@@ -4,7 +4,6 @@ use Rattle.gr_ids.specs.Names.{id_eq}
 use Rattle.gr_ids.specs.declared.names.Gtid.{Gtid}
 use Rattle.gr_ids.specs.declared.names.ValueId.{ValueId}
 use Rattle.key_items.specs.declared.item.Item.{Item}
-use Rattle.group_rules.specs.View.{View}
 use Rattle.gr_ids.specs.declared.levels.MemberState.TheVariants.{Error, Offline, Online, Recovering}
 use Rattle.group_rules.specs.Events.{AskFails, AsksCommit, Answered, Begun, Called, Came, Changed, Committed, Did, Done, Ends, Enters, Founds, Gave, Is, Life, Made, Replied, Restores, Skips, Starts, Took}
 use Rattle.group_rules.specs.Life.{executed, state, view}

@@ -25,7 +25,7 @@ ghost use Rattle.local_sessions.specs.declared.tables.Tables.{Tables as AnyTable
 ghost use Rattle.local_sessions.specs.declared.told.TakenOwn.{TakenOwn};
 ghost use Rattle.local_sessions.specs.Standing.{Active, Asking, Session, ascend, at_stage, begins, changed_at, is_held, session_in, stage_of};
 ghost use Rattle.local_sessions.specs.Replies.{Asks, Ends, Holds, Writing, keys_after, sessions_after};
-ghost use Rattle.local_sessions.specs.Others.{answer_of, answers_left, asking, killed_by, unless_killed};
+ghost use Rattle.local_sessions.specs.Others.{answer_of, answers_left, asking, killed_by, sessions_left, unless_killed};
 ghost use Rattle.local_sessions.specs.Following.{LocksOf, StandFor, TablesOf, asks_as, is_free, touches};
 ghost use Rattle.local_sessions.specs.Acting.{TakenOf, after_reply, reply_to, tell, told_to};
 
@@ -81,8 +81,10 @@ pub fn decisions_are_those_of_the_rules()
         → for_each (answer_conflict i g) (sessions a.life) a ≡ told_to (asking xs i) (answer_of (Conflict g)) a }
 {}
 
-/// When the member takes ERROR, its sessions are told what the rules of the group tell them.
+/// When the member takes ERROR, its sessions are told what the rules of the group tell them, and those that are left stand for its history.
 pub fn the_left_are_told_by_the_rules()
-    ensures { (xs : List Session) (k : Locked) (ts : List TakenOwn) (a : AnyMember) (c : AnyCause) → ascend xs ≡ true → StandFor xs a.life → LocksOf k a.life
+    ensures told { (xs : List Session) (k : Locked) (ts : List TakenOwn) (a : AnyMember) (c : AnyCause) → ascend xs ≡ true → StandFor xs a.life → LocksOf k a.life
         → TakenOf ts a.life → fall c a ≡ tell (answers_left ts xs) (push (Is Error c) a) }
+    ensures left { (xs : List Session) (k : Locked) (ts : List TakenOwn) (a : AnyMember) (c : AnyCause) → ascend xs ≡ true → StandFor xs a.life → LocksOf k a.life
+        → TakenOf ts a.life → StandFor (sessions_left xs) (fall c a).life }
 {}

@@ -1,5 +1,4 @@
 -- Where the session's transaction stands decides, in the order of the checks.
-use Rattle.std.proofs.Common.{◌≡◌}
 use Rattle.local_sessions.proofs.Replying.{replied}
 use Rattle.local_sessions.proofs.laws.replies_are_those_of_the_rules.Goals as goal
 
