@@ -21,7 +21,7 @@ use txn_forms::{Body, Txn, encode};
 const LARGEST_BODY: u64 = 16_777_216;
 
 /// Whether a commit ends the transaction at once.
-#[derive(Debug, Drop)]
+#[derive(Drop)]
 pub(crate) enum CommitCheck {
     Ends(Answer),
     /// It is to be sent, with this write set.
