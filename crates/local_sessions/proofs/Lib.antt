@@ -16,3 +16,4 @@ pub mod Killing
 pub mod Deciding
 pub mod Falling
 pub mod Remaining
+pub mod Queued

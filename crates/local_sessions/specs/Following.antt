@@ -1,18 +1,19 @@
 -- How the sessions of a member, and the tables that they read and write, stand for a history of the group's rules.
-use Rattle.std.specs.Prelude.{◌≡◌, is_some, ℕ, Bool, true, false, Option, Some, None, List, ◌==◌, IfSome}
+use Rattle.std.specs.Prelude.{◌≡◌, is_some, ℕ, Bool, true, false, Option, Some, None, List, ◌==◌, IfSome, [], ◌∷◌, ◌&&◌, filter, map, nat_lt}
 use Rattle.gr_ids.specs.Names.{id_eq}
 use Rattle.gr_ids.specs.declared.names.Gtid.{Gtid}
 use Rattle.gr_ids.specs.declared.names.ValueId.{ValueId}
 use Rattle.key_items.specs.declared.item.Item.{Item}
 use Rattle.gr_ids.specs.declared.levels.MemberState.TheVariants.{Error, Offline, Online, Recovering}
-use Rattle.group_rules.specs.Events.{AskFails, AsksCommit, Answered, Begun, Called, Came, Changed, Committed, Did, Done, Ends, Enters, Founds, Gave, Is, Life, Made, Replied, Restores, Skips, Starts, Took}
+use Rattle.group_rules.specs.Events.{AskFails, AsksCommit, Answered, Begun, Called, Came, Cert, Changed, Committed, Did, Done, Ends, Enters, Founds, Gave, Is, Life, Made, Replied, Restores, Skips, Starts, Took}
 use Rattle.group_rules.specs.Life.{executed, state, view}
-use Rattle.group_rules.specs.Queue.{queue}
+use Rattle.group_rules.specs.Queue.{is_done, queue}
 use Rattle.group_rules.specs.Member.{Member}
 use Rattle.group_rules.specs.Sessions.{Phase, Free as IsFree, Holding as IsHolding, Active as IsActive, Asking as IsAsking, begun_set, changes, is_active, is_holding, last_call, phase, sessions}
 use Rattle.group_rules.specs.Keys.{holds_key, keeps_key, killed, place_holder, was_left}
 use Rattle.group_rules.specs.Rows.{row_of}
 use Rattle.group_rules.specs.Calls.{is_after_call, state_then}
+use Rattle.row_locks.specs.declared.done.DonePlace.{DonePlace}
 use Rattle.row_locks.specs.Locking.{Locked, place_at, session_at}
 use Rattle.row_store.specs.Chains.{row_at, row_now}
 use Rattle.local_sessions.specs.declared.tables.Tables.{Tables}
@@ -126,3 +127,18 @@ touches (Ends s) = true
 touches (Enters w) = false
 touches (Restores g cs) = false
 touches AskFails = false
+
+-- ---- places that are done
+
+abbrev pub place_of : Cert → DonePlace
+place_of c = record { place = c.place; gtid = c.gtid; items = c.txn.items }
+
+-- the places that are done, of those that are queued
+abbrev pub done_places : Life → List Cert → List DonePlace
+done_places l cs = map place_of (filter (λ c. is_done l c.place) cs)
+
+-- each is above the one before it
+abbrev pub rise : List Cert → Bool
+rise [] = true
+rise (c ∷ []) = true
+rise (c ∷ d ∷ ds) = nat_lt c.place d.place && rise (d ∷ ds)

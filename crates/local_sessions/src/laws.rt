@@ -1,5 +1,5 @@
 // The sessions of a member stand for its history.
-ghost use Rattle.std.specs.Prelude.{◌≡◌, ◌∷◌, ℕ, [], List, None, Option, Some, map, true, false};
+ghost use Rattle.std.specs.Prelude.{◌≡◌, ◌∷◌, ℕ, [], List, None, Option, Some, map, true, false, ◌==◌, filter, not};
 ghost use Rattle.group_rules.specs.declared.requests.Request.{Request};
 ghost use Rattle.gr_ids.specs.declared.levels.Level.{Level};
 ghost use Rattle.gr_ids.specs.declared.names.Gtid.{Gtid};
@@ -9,7 +9,7 @@ ghost use Rattle.key_items.specs.declared.item.Item.{Item};
 ghost use Rattle.key_items.specs.declared.change.Change.{Change};
 ghost use Rattle.group_rules.specs.Events.{AsksCommit, Begun, Called, Cert, Changed, Did, Done, Ends as EndsIn, Is, Life};
 ghost use Rattle.group_rules.specs.Life.{certs, state};
-ghost use Rattle.group_rules.specs.Queue.{at_place};
+ghost use Rattle.group_rules.specs.Queue.{at_place, is_done};
 ghost use Rattle.group_rules.specs.Holds.{is_after};
 ghost use Rattle.group_rules.specs.Member.{Member as AnyMember, fall, for_each, push};
 ghost use Rattle.group_rules.specs.Points.{answer_commit};
@@ -18,15 +18,15 @@ ghost use Rattle.group_rules.specs.declared.answers.Outcome.TheVariants.{Committ
 ghost use Rattle.group_rules.specs.declared.marks.Cause.{Cause as AnyCause};
 ghost use Rattle.gr_ids.specs.declared.levels.MemberState.TheVariants.{Error};
 ghost use Rattle.group_rules.specs.Sessions.{is_active, is_holding, phase, sessions};
-ghost use Rattle.group_rules.specs.Keys.{killed, was_left};
+ghost use Rattle.group_rules.specs.Keys.{killed, place_holder, was_left};
 ghost use Rattle.group_rules.specs.Calls.{call};
-ghost use Rattle.row_locks.specs.Locking.{Locked, holders_of, other_session, session_at, taken_over};
+ghost use Rattle.row_locks.specs.Locking.{Locked, holders_of, other_session, session_at, taken_over, place_at, with_place, without_place};
 ghost use Rattle.local_sessions.specs.declared.tables.Tables.{Tables as AnyTables};
 ghost use Rattle.local_sessions.specs.declared.told.TakenOwn.{TakenOwn};
 ghost use Rattle.local_sessions.specs.Standing.{Active, Asking, Session, ascend, at_stage, begins, changed_at, is_held, session_in, stage_of};
 ghost use Rattle.local_sessions.specs.Replies.{Asks, Ends, Holds, Writing, keys_after, sessions_after};
 ghost use Rattle.local_sessions.specs.Others.{answer_of, answers_left, asking, killed_by, sessions_left, unless_killed};
-ghost use Rattle.local_sessions.specs.Following.{LocksOf, StandFor, TablesOf, asks_as, is_free, touches};
+ghost use Rattle.local_sessions.specs.Following.{LocksOf, StandFor, TablesOf, asks_as, is_free, touches, done_places, place_of, rise};
 ghost use Rattle.local_sessions.specs.Acting.{TakenOf, after_reply, reply_to, tell, told_to};
 
 /// Where the sessions and the tables stand for a history, the reply to each call is what the rules of the group give.
@@ -87,4 +87,13 @@ pub fn the_left_are_told_by_the_rules()
         → TakenOf ts a.life → fall c a ≡ tell (answers_left ts xs) (push (Is Error c) a) }
     ensures left { (xs : List Session) (k : Locked) (ts : List TakenOwn) (a : AnyMember) (c : AnyCause) → ascend xs ≡ true → StandFor xs a.life → LocksOf k a.life
         → TakenOf ts a.life → StandFor (sessions_left xs) (fall c a).life }
+{}
+
+/// The places that are done, of those queued, stay the places of the locks: one more is done, or one is committed. A key that they hold is
+/// held by the one that the rules of the group name.
+pub fn places_follow_their_queue()
+    ensures named { (l : Life) (i : Item) (cs : List Cert) → place_at (done_places l cs) i ≡ place_holder l i cs }
+    ensures done { (l : Life) (p : ℕ) (c : Cert) (cs : List Cert) → rise cs ≡ true → at_place cs p ≡ Some c → is_done l p ≡ false
+        → with_place (done_places l cs) (place_of c) ≡ done_places (Done p ∷ l) cs }
+    ensures freed { (l : Life) (p : ℕ) (cs : List Cert) → without_place p (done_places l cs) ≡ done_places l (filter (λ c. not (c.place == p)) cs) }
 {}

@@ -25,8 +25,8 @@ mod writing;
 
 pub use commit_step::CommitStep;
 pub use laws::{
-    decisions_are_those_of_the_rules, locks_follow_their_history, replies_are_those_of_the_rules,
-    sessions_follow_their_history, the_left_are_told_by_the_rules,
+    decisions_are_those_of_the_rules, locks_follow_their_history, places_follow_their_queue,
+    replies_are_those_of_the_rules, sessions_follow_their_history, the_left_are_told_by_the_rules,
 };
 pub use sessions::Sessions;
 pub use tables::Tables;
