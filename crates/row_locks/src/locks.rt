@@ -50,6 +50,14 @@ impl Locks {
         }
     }
 
+    /// Who holds the key beside this session: the least place that is done, else another session. Logarithmic in the locks; for each
+    /// done place, logarithmic in its keys. Takes no memory.
+    pub fn holder(&self, item: &Item, session: SessionId) -> Option<Holder>
+        ensures { result ≡ holder_beside self.now session item.now }
+    {
+        self.holder_beside(item, session, session_of_key(&self.keys, item))
+    }
+
     /// The session locks the key, which it may hold already. Refused exactly where another session or a done place holds it.
     /// Logarithmic in the locks; for each done place, logarithmic in its keys.
     pub fn lock(&mut self, item: &Item, session: SessionId) -> Result<(), LockFault>
