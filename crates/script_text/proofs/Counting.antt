@@ -1,5 +1,5 @@
 -- The words of a line, counted.
-use Rattle.std.proofs.Common.{◌≡◌, ℕ, List, [], ◌∷◌, Option, Some, None, refl}
+use Rattle.std.proofs.Common.{◌≡◌, List, [], ◌∷◌, Some, None, refl}
 use Rattle.std.specs.Prelude.{if◌then◌else◌}
 use Rattle.script_text.specs.Words.{Text, ◌>>=◌, first_word, has_none, one_word, two_words, three_words, four_words}
 

@@ -1,5 +1,5 @@
 -- The rows that a line names.
-use Rattle.std.specs.Prelude.{ℕ, List, ◌&&◌, Option, Some, None, if◌then◌else◌, codes}
+use Rattle.std.specs.Prelude.{List, ◌&&◌, Option, Some, None, if◌then◌else◌, codes}
 use Rattle.std.specs.Option.{option_map}
 use Rattle.std.specs.Str.{bytes_eq}
 use Rattle.group_rules.specs.Names.{Item, Change, Inserts, Updates, Deletes}

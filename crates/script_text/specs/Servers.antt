@@ -1,5 +1,5 @@
 -- The servers that a line names.
-use Rattle.std.specs.Prelude.{ℕ, List, [], ◌∷◌, Bool, true, not, ◌==◌, ◌&&◌, Option, Some, None}
+use Rattle.std.specs.Prelude.{ℕ, List, [], ◌∷◌, Bool, true, not, ◌==◌, ◌&&◌, Option, Some}
 use Rattle.std.specs.List.{list_any}
 use Rattle.script_text.specs.Words.{Text, ◌>>=◌}
 use Rattle.script_text.specs.Numbers.{number_in, first_number, only_number}
