@@ -1,0 +1,8 @@
+//! The texts of what a script's steps say, and the report.
+#![tactic(auto)]
+
+mod answers;
+mod entries;
+mod marks;
+mod names;
+mod worded;
