@@ -3,6 +3,14 @@
 
 mod answers;
 mod entries;
+mod fault;
+mod faults;
+mod lines;
+mod looked;
+mod looks;
 mod marks;
 mod names;
 mod worded;
+
+pub use fault::WorldFault;
+pub use faults::fault_text;
