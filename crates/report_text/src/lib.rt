@@ -10,7 +10,9 @@ mod looked;
 mod looks;
 mod marks;
 mod names;
+mod said;
 mod worded;
 
 pub use fault::WorldFault;
 pub use faults::fault_text;
+pub use said::answer_text;

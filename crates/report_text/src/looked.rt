@@ -1,6 +1,5 @@
 // The output lines of looks: one for each thing that is shown, and a last one.
-ghost use Rattle.std.specs.Prelude.{◌≡◌, ◌++◌, OnOk, codes, length};
-ghost use Rattle.std.specs.List.{flat_map};
+ghost use Rattle.std.specs.Prelude.{◌≡◌, ◌++◌, OnOk, codes, map};
 ghost use Rattle.group_rules.specs.declared.said.Look.TheVariants.{Members, Slots, Config, Gtids, Rows, Queue, Certifier, Kept, Wire};
 ghost use Rattle.group_rules.specs.Texts.{after_inc, config_text, decimal, done_text, gtid_text, inc_text, item_text, look_texts, member_text, mode_text, promise_text, set_text, wire_text};
 ghost use Rattle.report_text.specs.Lines.{output_line, output_lines};
@@ -32,7 +31,7 @@ fn put_member_lines(
     inc: Inc,
     members: &[ShownMember],
 ) -> Result<(), Memory>
-    ensures { OnOk result (to.new ≡ to.old ++ flat_map (λ m. output_line number (after_inc inc (member_text m))) members.now) }
+    ensures { OnOk result (to.new ≡ to.old ++ output_lines number (map (λ x. after_inc inc (member_text x)) members.now)) }
 {
     for member in members {
         put_member_line(to, number, inc, *member)?;
@@ -49,17 +48,242 @@ fn put_view_line(to: &mut Blob, number: u64, inc: Inc, view: u64, mode: Mode) ->
     end_line(to)
 }
 
-/// The members of a view.
+/// The members of a view, and the view.
 fn put_members(
     to: &mut Blob,
     number: u64,
     inc: Inc,
-    members: &Sequence<ShownMember>,
+    members: &[ShownMember],
     view: u64,
     mode: Mode,
 ) -> Result<(), Memory>
     ensures { OnOk result (to.new ≡ to.old ++ output_lines number (look_texts (Members inc members.now view mode))) }
 {
-    put_member_lines(to, number, inc, members.as_slice())?;
+    put_member_lines(to, number, inc, members)?;
     put_view_line(to, number, inc, view, mode)
+}
+
+/// The line with the count of what was shown.
+fn put_count_line(
+    to: &mut Blob,
+    number: u64,
+    inc: Inc,
+    name: &[u8],
+    count: usize,
+) -> Result<(), Memory>
+    ensures { OnOk result (to.new ≡ to.old ++ output_line number (after_inc inc (name.now ++ codes " " ++ decimal count))) }
+{
+    begin_inc_line(to, number, inc)?;
+    put_count(to, name, count)?;
+    end_line(to)
+}
+
+/// The line of a row.
+fn put_row_line(to: &mut Blob, number: u64, inc: Inc, row: &Row) -> Result<(), Memory>
+    ensures { OnOk result (to.new ≡ to.old ++ output_line number (after_inc inc (codes "row " ++ item_text row.now.item ++ codes " " ++ row.now.value))) }
+{
+    begin_inc_line(to, number, inc)?;
+    put_row(to, row)?;
+    end_line(to)
+}
+
+/// The lines of rows.
+fn put_row_lines(to: &mut Blob, number: u64, inc: Inc, rows: &[Row]) -> Result<(), Memory>
+    ensures { OnOk result (to.new ≡ to.old ++ output_lines number (map (λ x. after_inc inc (codes "row " ++ item_text x.item ++ codes " " ++ x.value)) rows.now)) }
+{
+    for row in rows {
+        put_row_line(to, number, inc, row)?;
+    }
+    Ok(())
+}
+
+/// Rows, and their count.
+fn put_rows(to: &mut Blob, number: u64, inc: Inc, rows: &[Row]) -> Result<(), Memory>
+    ensures { OnOk result (to.new ≡ to.old ++ output_lines number (look_texts (Rows inc rows.now))) }
+{
+    put_row_lines(to, number, inc, rows)?;
+    put_count_line(to, number, inc, b"rows", rows.len())
+}
+
+/// The line of a queued place.
+fn put_place_line(to: &mut Blob, number: u64, inc: Inc, place: QueuedPlace) -> Result<(), Memory>
+    ensures { OnOk result (to.new ≡ to.old ++ output_line number (after_inc inc (codes "queued " ++ decimal place.place ++ done_text place.done))) }
+{
+    begin_inc_line(to, number, inc)?;
+    put_queued(to, place)?;
+    end_line(to)
+}
+
+/// The lines of queued places.
+fn put_place_lines(
+    to: &mut Blob,
+    number: u64,
+    inc: Inc,
+    places: &[QueuedPlace],
+) -> Result<(), Memory>
+    ensures { OnOk result (to.new ≡ to.old ++ output_lines number (map (λ x. after_inc inc (codes "queued " ++ decimal x.place ++ done_text x.done)) places.now)) }
+{
+    for place in places {
+        put_place_line(to, number, inc, *place)?;
+    }
+    Ok(())
+}
+
+/// Queued places, and their count.
+fn put_places(to: &mut Blob, number: u64, inc: Inc, places: &[QueuedPlace]) -> Result<(), Memory>
+    ensures { OnOk result (to.new ≡ to.old ++ output_lines number (look_texts (Queue inc places.now))) }
+{
+    put_place_lines(to, number, inc, places)?;
+    put_count_line(to, number, inc, b"queue", places.len())
+}
+
+/// The line of an item.
+fn put_writer_line(to: &mut Blob, number: u64, inc: Inc, writer: &ItemWriter) -> Result<(), Memory>
+    ensures { OnOk result (to.new ≡ to.old ++ output_line number (after_inc inc (codes "item " ++ item_text writer.now.item ++ codes " " ++ gtid_text writer.now.gtid))) }
+{
+    begin_inc_line(to, number, inc)?;
+    put_writer(to, writer)?;
+    end_line(to)
+}
+
+/// The lines of items.
+fn put_writer_lines(
+    to: &mut Blob,
+    number: u64,
+    inc: Inc,
+    writers: &[ItemWriter],
+) -> Result<(), Memory>
+    ensures { OnOk result (to.new ≡ to.old ++ output_lines number (map (λ x. after_inc inc (codes "item " ++ item_text x.item ++ codes " " ++ gtid_text x.gtid)) writers.now)) }
+{
+    for writer in writers {
+        put_writer_line(to, number, inc, writer)?;
+    }
+    Ok(())
+}
+
+/// Items, and their count.
+fn put_writers(to: &mut Blob, number: u64, inc: Inc, writers: &[ItemWriter]) -> Result<(), Memory>
+    ensures { OnOk result (to.new ≡ to.old ++ output_lines number (look_texts (Certifier inc writers.now))) }
+{
+    put_writer_lines(to, number, inc, writers)?;
+    put_count_line(to, number, inc, b"items", writers.len())
+}
+
+/// The line of a message.
+fn put_wire_line(to: &mut Blob, number: u64, message: WireLine) -> Result<(), Memory>
+    ensures { OnOk result (to.new ≡ to.old ++ output_line number (wire_text message)) }
+{
+    begin_line(to, number)?;
+    put_wire(to, message)?;
+    end_line(to)
+}
+
+/// The lines of messages.
+fn put_wire_lines(to: &mut Blob, number: u64, messages: &[WireLine]) -> Result<(), Memory>
+    ensures { OnOk result (to.new ≡ to.old ++ output_lines number (map wire_text messages.now)) }
+{
+    for message in messages {
+        put_wire_line(to, number, *message)?;
+    }
+    Ok(())
+}
+
+/// The line with the counts of messages: those shown, and all sent.
+fn put_sent_line(to: &mut Blob, number: u64, shown: usize, sent: u64) -> Result<(), Memory>
+    ensures { OnOk result (to.new ≡ to.old ++ output_line number (codes "wire " ++ decimal shown ++ codes " of " ++ decimal sent)) }
+{
+    begin_line(to, number)?;
+    put_number_after(to, b"wire ", shown as u64)?;
+    put_number_after(to, b" of ", sent)?;
+    end_line(to)
+}
+
+/// Messages, and their counts.
+fn put_messages(to: &mut Blob, number: u64, messages: &[WireLine], sent: u64) -> Result<(), Memory>
+    ensures { OnOk result (to.new ≡ to.old ++ output_lines number (look_texts (Wire messages.now sent))) }
+{
+    put_wire_lines(to, number, messages)?;
+    put_sent_line(to, number, messages.len(), sent)
+}
+
+/// The line of a member's slots.
+fn put_slots_line(
+    to: &mut Blob,
+    number: u64,
+    inc: Inc,
+    next: u64,
+    place: Pos,
+    promise: Option<Ballot>,
+) -> Result<(), Memory>
+    ensures { OnOk result (to.new ≡ to.old ++ output_lines number (look_texts (Slots inc next place promise))) }
+{
+    begin_inc_line(to, number, inc)?;
+    put_slots(to, next, place, promise)?;
+    end_line(to)
+}
+
+/// The line of a configuration.
+fn put_config_line(
+    to: &mut Blob,
+    number: u64,
+    inc: Inc,
+    slot: u64,
+    members: &Option<Sequence<Inc>>,
+) -> Result<(), Memory>
+    ensures { OnOk result (to.new ≡ to.old ++ output_lines number (look_texts (Config inc slot members.now))) }
+{
+    begin_inc_line(to, number, inc)?;
+    put_slot_config(to, slot, members)?;
+    end_line(to)
+}
+
+/// The line of a set.
+fn put_gtids_line(
+    alloc: Global,
+    to: &mut Blob,
+    number: u64,
+    inc: Inc,
+    set: &GtidSet,
+) -> Result<(), Memory>
+    ensures { OnOk result (to.new ≡ to.old ++ output_lines number (look_texts (Gtids inc set.now))) }
+{
+    begin_inc_line(to, number, inc)?;
+    put_set_after(alloc, to, b"gtids ", set)?;
+    end_line(to)
+}
+
+/// The line of the least slot that is kept.
+fn put_kept_line(to: &mut Blob, number: u64, inc: Inc, low: u64) -> Result<(), Memory>
+    ensures { OnOk result (to.new ≡ to.old ++ output_lines number (look_texts (Kept inc low))) }
+{
+    begin_inc_line(to, number, inc)?;
+    put_number_after(to, b"kept from ", low)?;
+    end_line(to)
+}
+
+/// The lines of a look.
+pub fn put_look(alloc: Global, to: &mut Blob, number: u64, look: &Look) -> Result<(), Memory>
+    ensures { OnOk result (to.new ≡ to.old ++ output_lines number (look_texts look.now)) }
+{
+    match look {
+        Look::Members {
+            inc,
+            members,
+            view,
+            mode,
+        } => put_members(to, number, *inc, members.as_slice(), *view, *mode),
+        Look::Slots {
+            inc,
+            next,
+            place,
+            promise,
+        } => put_slots_line(to, number, *inc, *next, *place, *promise),
+        Look::Config { inc, slot, members } => put_config_line(to, number, *inc, *slot, members),
+        Look::Gtids { inc, set } => put_gtids_line(alloc, to, number, *inc, set),
+        Look::Rows { inc, rows } => put_rows(to, number, *inc, rows.as_slice()),
+        Look::Queue { inc, places } => put_places(to, number, *inc, places.as_slice()),
+        Look::Certifier { inc, items } => put_writers(to, number, *inc, items.as_slice()),
+        Look::Kept { inc, low } => put_kept_line(to, number, *inc, *low),
+        Look::Wire { messages, sent } => put_messages(to, number, messages.as_slice(), *sent),
+    }
 }
