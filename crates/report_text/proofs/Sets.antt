@@ -1,9 +1,12 @@
 -- Sets of GTIDs in their numerals.
-use Rattle.std.proofs.Common.{◌≡◌, ◌<◌, ◌≤◌, ◌^◌, ◌++◌, ◌∷◌, [], ℕ, List, Bool, true, false, length, refl, sym, ap, ◌∙◌, arith, eqb}
+use Rattle.std.proofs.Common.{◌≡◌, ◌<◌, ◌≤◌, ◌^◌, ◌++◌, ◌∷◌, [], ℕ, zero, suc, List, Bool, true, false, length, codes, refl, sym, ap, ◌∙◌, arith, lit<, eqb}
 use Rattle.std.specs.List.{flat_map}
 use Rattle.std.specs.Fmt.{decimal as std_decimal}
-use Rattle.std.specs.Str.{bytes_eq}
+use Rattle.std.specs.Str.{bytes_eq, IsAscii, IsUtf8}
+use Rattle.std.proofs.lemmas.Str.{IsUtf8-append, IsUtf8-nil, IsUtf8-from_ascii}
+use Rattle.std.proofs.lemmas.Fmt.{IsAscii-decimal}
 use Rattle.gr_ids.specs.Uuids.{uuid_text}
+use Rattle.gr_ids.proofs.UuidTexts.{uuid_text-IsUtf8}
 use Rattle.gtid_sets.specs.declared.run.Run.{Run}
 use Rattle.gtid_sets.specs.Sets.{Gtids}
 use Rattle.gtid_sets.specs.Canonical.{IsCanonical, IsRun}
@@ -80,3 +83,53 @@ sources_are (s ∷ ss) h =
 pub set_is : (s : Gtids) → IsCanonical s → 0 < length s → spelt_set s ≡ set_text s
 set_is [] h some = absurd (omega arith)
 set_is (r ∷ rs) h some = sources_are (sources_of (r ∷ rs)) (small_sources (r ∷ rs) h)
+
+-- ---- their bytes
+
+ascii_byte : (b : ℕ) → b < 128 → IsAscii (b ∷ [])
+ascii_byte b h zero = h
+ascii_byte b h (suc i) = lit< tt
+
+dash : IsUtf8 (codes "-")
+dash = IsUtf8-from_ascii (codes "-") (ascii_byte 45 (lit< tt))
+
+colon : IsUtf8 (codes ":")
+colon = IsUtf8-from_ascii (codes ":") (ascii_byte 58 (lit< tt))
+
+comma : IsUtf8 (codes ",")
+comma = IsUtf8-from_ascii (codes ",") (ascii_byte 44 (lit< tt))
+
+span_utf8 : (i : Interval) → IsSmall i → IsUtf8 (span_text_by std_decimal i)
+unfolding IsSmall
+span_utf8 i h = go (eqb i.first i.last)
+  where
+    first : IsUtf8 (std_decimal i.first)
+    first = IsUtf8-from_ascii _ (IsAscii-decimal i.first h.0)
+
+    last : IsUtf8 (std_decimal i.last)
+    last = IsUtf8-from_ascii _ (IsAscii-decimal i.last h.1)
+
+    go : (b : Bool) → IsUtf8 (elim b [ true ↦ std_decimal i.first | false ↦ std_decimal i.first ++ (codes "-" ++ std_decimal i.last) ])
+    go true = first
+    go false = IsUtf8-append _ _ first (IsUtf8-append (codes "-") _ dash last)
+
+intervals_utf8 : (is : List Interval) → AreSmall is → IsUtf8 (flat_map (interval_text_by std_decimal) is)
+unfolding AreSmall
+intervals_utf8 [] h = IsUtf8-nil
+intervals_utf8 (i ∷ is) h = IsUtf8-append (interval_text_by std_decimal i) _ (IsUtf8-append (codes ":") _ colon (span_utf8 i h.0)) (intervals_utf8 is h.1)
+
+source_utf8 : (s : Source) → AreSmall s.intervals → IsUtf8 (source_text_by std_decimal s)
+source_utf8 s h = IsUtf8-append (uuid_text s.uuid) _ (uuid_text-IsUtf8 s.uuid) (intervals_utf8 s.intervals h)
+
+others_utf8 : (ss : List Source) → HasSmall ss → IsUtf8 (flat_map (joined_text_by std_decimal) ss)
+unfolding HasSmall
+others_utf8 [] h = IsUtf8-nil
+others_utf8 (s ∷ ss) h = IsUtf8-append (joined_text_by std_decimal s) _ (IsUtf8-append (codes ",") _ comma (source_utf8 s h.0)) (others_utf8 ss h.1)
+
+sources_utf8 : (ss : List Source) → HasSmall ss → IsUtf8 (sources_text_by std_decimal ss)
+unfolding HasSmall
+sources_utf8 [] h = IsUtf8-nil
+sources_utf8 (s ∷ ss) h = IsUtf8-append (source_text_by std_decimal s) _ (source_utf8 s h.0) (others_utf8 ss h.1)
+
+pub set_text-IsUtf8 : (s : Gtids) → IsCanonical s → IsUtf8 (spelt_set s)
+set_text-IsUtf8 s h = sources_utf8 (sources_of s) (small_sources s h)

@@ -84,7 +84,7 @@ pub fn put_answer(alloc: Global, to: &mut Blob, answer: &Answer) -> Result<(), M
         Answer::RolledBack => to.append(b"rolled back"),
         Answer::Busy => to.append(b"busy"),
         Answer::NoTransaction => to.append(b"no transaction"),
-        Answer::NotOnline(state) => put_after(to, b"not online ", state_name(*state)),
+        Answer::NotOnline(state) => put_after(to, b"not online ", state_name(*state).as_bytes()),
         Answer::ReadOnly(primary) => put_read_only(to, *primary),
         Answer::RowLocked(holder) => put_locked(to, *holder),
         Answer::DuplicateKey => to.append(b"duplicate key"),

@@ -12,7 +12,9 @@ mod marks;
 mod names;
 mod said;
 mod worded;
+mod world_report;
 
 pub use fault::WorldFault;
 pub use faults::fault_text;
 pub use said::answer_text;
+pub use world_report::{MemberReport, WorldReport, report};

@@ -14,7 +14,7 @@ fn shown_name(shown: Shown) -> &'static [u8]
 {
     match shown {
         Shown::Unreachable => b"UNREACHABLE",
-        Shown::State(state) => state_name(state),
+        Shown::State(state) => state_name(state).as_bytes(),
     }
 }
 

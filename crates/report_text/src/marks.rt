@@ -39,7 +39,7 @@ fn put_reply(to: &mut Blob, reply: Reply) -> Result<(), Memory>
         Reply::Asked(inc) => put_inc_after(to, b"asked ", inc),
         Reply::Failed => to.append(b"failed"),
         Reply::Finished => to.append(b"finished"),
-        Reply::NotOnline(state) => put_after(to, b"not online ", state_name(state)),
+        Reply::NotOnline(state) => put_after(to, b"not online ", state_name(state).as_bytes()),
         Reply::NoAskDue => to.append(b"no ask due"),
         Reply::NoAskPending => to.append(b"no ask pending"),
         Reply::NotQueued(place) => put_place_after(to, b"not queued ", place),
@@ -86,7 +86,7 @@ fn put_skipped(to: &mut Blob, slot: u64, id: ValueId) -> Result<(), Memory>
 fn put_state(alloc: Global, to: &mut Blob, state: MemberState, cause: &Cause) -> Result<(), Memory>
     ensures { OnOk result (to.new ≡ to.old ++ mark_text (State state cause.now)) }
 {
-    put_after(to, b"state ", state_name(state))?;
+    put_after(to, b"state ", state_name(state).as_bytes())?;
     put_cause(alloc, to, cause)
 }
 

@@ -107,14 +107,14 @@ pub fn put_item(to: &mut Blob, item: &Item) -> Result<(), Memory>
 }
 
 /// A member's state.
-pub fn state_name(state: MemberState) -> &'static [u8]
+pub fn state_name(state: MemberState) -> &'static str
     ensures { result.now ≡ state_text state }
 {
     match state {
-        MemberState::Offline => b"OFFLINE",
-        MemberState::Recovering => b"RECOVERING",
-        MemberState::Online => b"ONLINE",
-        MemberState::Error => b"ERROR",
+        MemberState::Offline => "OFFLINE",
+        MemberState::Recovering => "RECOVERING",
+        MemberState::Online => "ONLINE",
+        MemberState::Error => "ERROR",
     }
 }
 
