@@ -11,6 +11,8 @@ mod looks;
 mod marks;
 mod names;
 mod said;
+#[cfg(test)]
+mod tests;
 mod worded;
 mod world_report;
 
