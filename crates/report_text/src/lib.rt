@@ -6,11 +6,12 @@ mod entries;
 mod fault;
 mod faults;
 mod lines;
-mod looked;
 mod looks;
 mod marks;
 mod names;
 mod said;
+mod shown;
+mod shown_lines;
 #[cfg(test)]
 mod tests;
 mod worded;

@@ -1,166 +1,180 @@
-// The texts of what looks show.
+// The output lines of looks: one for each thing that is shown, and a last one.
 ghost use Rattle.std.specs.Prelude.{◌≡◌, ◌++◌, OnOk, codes};
-ghost use Rattle.std.specs.List.{flat_map};
-ghost use Rattle.group_rules.specs.Texts.{config_text, decimal, done_text, gtid_text, inc_text, item_text, kind_text, member_text, mode_text, primary_text, promise_text, shown_text, wire_text};
+ghost use Rattle.group_rules.specs.declared.said.Look.TheVariants.{Members, Slots, Config, Gtids, Rows, Queue, Certifier, Kept, Wire};
+ghost use Rattle.group_rules.specs.Texts.{decimal, look_texts, mode_text};
+ghost use Rattle.report_text.specs.Lines.{output_line, output_lines};
+ghost use Rattle.report_text.specs.Shown.{inc_line};
 
-use crate::names::{mode_name, put_item, put_promise, state_name};
-use crate::worded::{put_after, put_gtid_after, put_inc_after, put_number_after, put_place_after};
+use crate::lines::{begin_inc_line, begin_line, end_line};
+use crate::shown::{put_count, put_slot_config, put_slots, put_view};
+use crate::shown_lines::{
+    put_member_lines, put_place_lines, put_row_lines, put_wire_lines, put_writer_lines,
+};
+use crate::worded::{put_number_after, put_set_after};
 use gr_ids::{Ballot, Blob, Inc, Memory, Mode, Pos, Sequence};
-use group_rules::{ItemWriter, QueuedPlace, Row, Shown, ShownMember, WireLine};
+use group_rules::{ItemWriter, Look, QueuedPlace, Row, ShownMember, WireLine};
+use gtid_sets::GtidSet;
+use std::alloc::Global;
 
-/// A member's state as another one shows it.
-fn shown_name(shown: Shown) -> &'static [u8]
-    ensures { result.now ≡ shown_text shown }
+/// The line of a view.
+fn put_view_line(to: &mut Blob, number: u64, inc: Inc, view: u64, mode: Mode) -> Result<(), Memory>
+    ensures { OnOk result (to.new ≡ to.old ++ inc_line number inc (codes "view " ++ decimal view ++ codes " " ++ mode_text mode)) }
 {
-    match shown {
-        Shown::Unreachable => b"UNREACHABLE",
-        Shown::State(state) => state_name(state).as_bytes(),
-    }
+    begin_inc_line(to, number, inc)?;
+    put_view(to, view, mode)?;
+    end_line(to)
 }
 
-fn primary_mark(primary: bool) -> &'static [u8]
-    ensures { result.now ≡ primary_text primary }
-{
-    if primary { b" primary" } else { b"" }
-}
-
-fn done_mark(done: bool) -> &'static [u8]
-    ensures { result.now ≡ done_text done }
-{
-    if done { b" done" } else { b" waiting" }
-}
-
-/// The name of a message's kind, by its byte.
-fn kind_name(kind: u8) -> &'static [u8]
-    ensures { result.now ≡ kind_text kind }
-{
-    match kind {
-        0 | 1 => b"Prepare",
-        2 => b"Promise",
-        3 => b"Accept",
-        4 => b"Accepted",
-        5 => b"Learn",
-        6 => b"Offer",
-        7 => b"Welcome",
-        8 => b"Ask",
-        9 => b"Give",
-        10 => b"Alive",
-        11 => b"Gone",
-        _ => b"",
-    }
-}
-
-/// A member.
-pub fn put_member(to: &mut Blob, member: ShownMember) -> Result<(), Memory>
-    ensures { OnOk result (to.new ≡ to.old ++ member_text member) }
-{
-    put_inc_after(to, b"member ", member.inc)?;
-    put_after(to, b" ", shown_name(member.shown))?;
-    to.append(primary_mark(member.primary))
-}
-
-/// A view: its number and its mode.
-pub fn put_view(to: &mut Blob, view: u64, mode: Mode) -> Result<(), Memory>
-    ensures { OnOk result (to.new ≡ to.old ++ (codes "view " ++ decimal view ++ codes " " ++ mode_text mode)) }
-{
-    put_number_after(to, b"view ", view)?;
-    put_after(to, b" ", mode_name(mode))
-}
-
-/// A member's slots: the next one, the place, and the promise.
-pub fn put_slots(
+/// The members of a view, and the view.
+fn put_members(
     to: &mut Blob,
+    number: u64,
+    inc: Inc,
+    members: &[ShownMember],
+    view: u64,
+    mode: Mode,
+) -> Result<(), Memory>
+    ensures { OnOk result (to.new ≡ to.old ++ output_lines number (look_texts (Members inc members.now view mode))) }
+{
+    put_member_lines(to, number, inc, members)?;
+    put_view_line(to, number, inc, view, mode)
+}
+
+/// The line with the count of what was shown.
+fn put_count_line(
+    to: &mut Blob,
+    number: u64,
+    inc: Inc,
+    name: &[u8],
+    count: usize,
+) -> Result<(), Memory>
+    ensures { OnOk result (to.new ≡ to.old ++ inc_line number inc (name.now ++ codes " " ++ decimal count)) }
+{
+    begin_inc_line(to, number, inc)?;
+    put_count(to, name, count)?;
+    end_line(to)
+}
+
+/// Rows, and their count.
+fn put_rows(to: &mut Blob, number: u64, inc: Inc, rows: &[Row]) -> Result<(), Memory>
+    ensures { OnOk result (to.new ≡ to.old ++ output_lines number (look_texts (Rows inc rows.now))) }
+{
+    put_row_lines(to, number, inc, rows)?;
+    put_count_line(to, number, inc, b"rows", rows.len())
+}
+
+/// Queued places, and their count.
+fn put_places(to: &mut Blob, number: u64, inc: Inc, places: &[QueuedPlace]) -> Result<(), Memory>
+    ensures { OnOk result (to.new ≡ to.old ++ output_lines number (look_texts (Queue inc places.now))) }
+{
+    put_place_lines(to, number, inc, places)?;
+    put_count_line(to, number, inc, b"queue", places.len())
+}
+
+/// Items, and their count.
+fn put_writers(to: &mut Blob, number: u64, inc: Inc, writers: &[ItemWriter]) -> Result<(), Memory>
+    ensures { OnOk result (to.new ≡ to.old ++ output_lines number (look_texts (Certifier inc writers.now))) }
+{
+    put_writer_lines(to, number, inc, writers)?;
+    put_count_line(to, number, inc, b"items", writers.len())
+}
+
+/// The line with the counts of messages: those shown, and all sent.
+fn put_sent_line(to: &mut Blob, number: u64, shown: usize, sent: u64) -> Result<(), Memory>
+    ensures { OnOk result (to.new ≡ to.old ++ output_line number (codes "wire " ++ decimal shown ++ codes " of " ++ decimal sent)) }
+{
+    begin_line(to, number)?;
+    put_number_after(to, b"wire ", shown as u64)?;
+    put_number_after(to, b" of ", sent)?;
+    end_line(to)
+}
+
+/// Messages, and their counts.
+fn put_messages(to: &mut Blob, number: u64, messages: &[WireLine], sent: u64) -> Result<(), Memory>
+    ensures { OnOk result (to.new ≡ to.old ++ output_lines number (look_texts (Wire messages.now sent))) }
+{
+    put_wire_lines(to, number, messages)?;
+    put_sent_line(to, number, messages.len(), sent)
+}
+
+/// The line of a member's slots.
+fn put_slots_line(
+    to: &mut Blob,
+    number: u64,
+    inc: Inc,
     next: u64,
     place: Pos,
     promise: Option<Ballot>,
 ) -> Result<(), Memory>
-    ensures { OnOk result (to.new ≡ to.old ++ (codes "slots next " ++ decimal next ++ codes " place " ++ decimal place ++ codes " promise " ++ promise_text promise)) }
+    ensures { OnOk result (to.new ≡ to.old ++ output_lines number (look_texts (Slots inc next place promise))) }
 {
-    put_number_after(to, b"slots next ", next)?;
-    put_place_after(to, b" place ", place)?;
-    put_promise_after(to, b" promise ", promise)
+    begin_inc_line(to, number, inc)?;
+    put_slots(to, next, place, promise)?;
+    end_line(to)
 }
 
-/// Words and a promise.
-fn put_promise_after(to: &mut Blob, words: &[u8], promise: Option<Ballot>) -> Result<(), Memory>
-    ensures { OnOk result (to.new ≡ to.old ++ (words.now ++ promise_text promise)) }
-{
-    to.append(words)?;
-    put_promise(to, promise)
-}
-
-/// The incarnations of a configuration.
-fn put_config_members(to: &mut Blob, members: &[Inc]) -> Result<(), Memory>
-    ensures { OnOk result (to.new ≡ to.old ++ flat_map (λ i. codes " " ++ inc_text i) members.now) }
-{
-    for inc in members {
-        put_inc_after(to, b" ", *inc)?;
-    }
-    Ok(())
-}
-
-/// The members of a configuration, if it is known.
-fn put_config(to: &mut Blob, members: &Option<Sequence<Inc>>) -> Result<(), Memory>
-    ensures { OnOk result (to.new ≡ to.old ++ config_text members.now) }
-{
-    match members {
-        None => to.append(b" unknown"),
-        Some(members) => put_config_members(to, members.as_slice()),
-    }
-}
-
-/// A slot's configuration.
-pub fn put_slot_config(
+/// The line of a configuration.
+fn put_config_line(
     to: &mut Blob,
+    number: u64,
+    inc: Inc,
     slot: u64,
     members: &Option<Sequence<Inc>>,
 ) -> Result<(), Memory>
-    ensures { OnOk result (to.new ≡ to.old ++ (codes "config " ++ decimal slot ++ config_text members.now)) }
+    ensures { OnOk result (to.new ≡ to.old ++ output_lines number (look_texts (Config inc slot members.now))) }
 {
-    put_number_after(to, b"config ", slot)?;
-    put_config(to, members)
+    begin_inc_line(to, number, inc)?;
+    put_slot_config(to, slot, members)?;
+    end_line(to)
 }
 
-/// A row.
-pub fn put_row(to: &mut Blob, row: &Row) -> Result<(), Memory>
-    ensures { OnOk result (to.new ≡ to.old ++ (codes "row " ++ item_text row.now.item ++ codes " " ++ row.now.value)) }
+/// The line of a set.
+fn put_gtids_line(
+    alloc: Global,
+    to: &mut Blob,
+    number: u64,
+    inc: Inc,
+    set: &GtidSet,
+) -> Result<(), Memory>
+    ensures { OnOk result (to.new ≡ to.old ++ output_lines number (look_texts (Gtids inc set.now))) }
 {
-    to.append(b"row ")?;
-    put_item(to, &row.item)?;
-    put_after(to, b" ", row.value.as_slice())
+    begin_inc_line(to, number, inc)?;
+    put_set_after(alloc, to, b"gtids ", set)?;
+    end_line(to)
 }
 
-/// A queued place.
-pub fn put_queued(to: &mut Blob, queued: QueuedPlace) -> Result<(), Memory>
-    ensures { OnOk result (to.new ≡ to.old ++ (codes "queued " ++ decimal queued.place ++ done_text queued.done)) }
+/// The line of the least slot that is kept.
+fn put_kept_line(to: &mut Blob, number: u64, inc: Inc, low: u64) -> Result<(), Memory>
+    ensures { OnOk result (to.new ≡ to.old ++ output_lines number (look_texts (Kept inc low))) }
 {
-    put_place_after(to, b"queued ", queued.place)?;
-    to.append(done_mark(queued.done))
+    begin_inc_line(to, number, inc)?;
+    put_number_after(to, b"kept from ", low)?;
+    end_line(to)
 }
 
-/// An item with its last writer.
-pub fn put_writer(to: &mut Blob, writer: &ItemWriter) -> Result<(), Memory>
-    ensures { OnOk result (to.new ≡ to.old ++ (codes "item " ++ item_text writer.now.item ++ codes " " ++ gtid_text writer.now.gtid)) }
+/// The lines of a look.
+pub fn put_look(alloc: Global, to: &mut Blob, number: u64, look: &Look) -> Result<(), Memory>
+    ensures { OnOk result (to.new ≡ to.old ++ output_lines number (look_texts look.now)) }
 {
-    to.append(b"item ")?;
-    put_item(to, &writer.item)?;
-    put_gtid_after(to, b" ", writer.gtid)
-}
-
-/// A message that was neither delivered nor lost.
-pub fn put_wire(to: &mut Blob, line: WireLine) -> Result<(), Memory>
-    ensures { OnOk result (to.new ≡ to.old ++ wire_text line) }
-{
-    put_number_after(to, b"wire ", line.number)?;
-    put_inc_after(to, b" ", line.from)?;
-    put_inc_after(to, b" ", line.to)?;
-    put_after(to, b" ", kind_name(line.kind))
-}
-
-/// The count of what was shown.
-pub fn put_count(to: &mut Blob, name: &[u8], count: usize) -> Result<(), Memory>
-    ensures { OnOk result (to.new ≡ to.old ++ (name.now ++ codes " " ++ decimal count)) }
-{
-    to.append(name)?;
-    put_number_after(to, b" ", count as u64)
+    match look {
+        Look::Members {
+            inc,
+            members,
+            view,
+            mode,
+        } => put_members(to, number, *inc, members.as_slice(), *view, *mode),
+        Look::Slots {
+            inc,
+            next,
+            place,
+            promise,
+        } => put_slots_line(to, number, *inc, *next, *place, *promise),
+        Look::Config { inc, slot, members } => put_config_line(to, number, *inc, *slot, members),
+        Look::Gtids { inc, set } => put_gtids_line(alloc, to, number, *inc, set),
+        Look::Rows { inc, rows } => put_rows(to, number, *inc, rows.as_slice()),
+        Look::Queue { inc, places } => put_places(to, number, *inc, places.as_slice()),
+        Look::Certifier { inc, items } => put_writers(to, number, *inc, items.as_slice()),
+        Look::Kept { inc, low } => put_kept_line(to, number, *inc, *low),
+        Look::Wire { messages, sent } => put_messages(to, number, messages.as_slice(), *sent),
+    }
 }

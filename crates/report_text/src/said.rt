@@ -5,7 +5,7 @@ ghost use Rattle.group_rules.specs.Texts.{after_inc, mark_text, said_texts};
 ghost use Rattle.report_text.specs.Lines.{output_line, output_lines};
 
 use crate::lines::{begin_inc_line, begin_line, end_line};
-use crate::looked::put_look;
+use crate::looks::put_look;
 use crate::marks::put_mark;
 use crate::worded::put_gtid_after;
 use gr_ids::{Blob, Gtid, Inc, Memory};

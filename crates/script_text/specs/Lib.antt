@@ -10,3 +10,4 @@ pub mod Moves
 pub mod Looks
 pub mod Grammar
 pub mod Make
+pub mod Scenes

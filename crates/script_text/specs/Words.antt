@@ -1,5 +1,5 @@
 -- The words of a line, and what is read of them one after another.
-use Rattle.std.specs.Prelude.{ℕ, List, [], ◌∷◌, length, ◌==◌, Bool, true, false, nat_lt, Option, Some, None, option_and_then, if◌then◌else◌}
+use Rattle.std.specs.Prelude.{ℕ, List, [], ◌∷◌, length, ◌==◌, Bool, true, false, nat_lt, slice_index, Option, Some, None, option_and_then, if◌then◌else◌}
 use Rattle.std.specs.List.{slice_split, filter}
 
 abbrev pub Text : Type 0
@@ -23,6 +23,10 @@ words_of line = filter (λ w. nat_lt 0 (length w)) (slice_split (λ b. b == 32) 
 abbrev pub first_word : List Text → Option (Text × List Text)
 first_word [] = None
 first_word (a ∷ ws) = Some (a, ws)
+
+-- The first word of a line that is no comment, and the others. A comment has no words, or begins with `#`.
+abbrev pub named_words : Text → Option (Text × List Text)
+named_words line = if slice_index line 0 == 35 then None else first_word (words_of line)
 
 -- ---- all of the words
 

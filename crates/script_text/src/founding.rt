@@ -15,7 +15,7 @@ use std::alloc::Global;
 
 /// The declaration of a server, without its name: N UUID VERSION WEIGHT.
 #[tactic(auto, unfolding(crate::specs::Founding::declared_of))]
-fn read_declaration(alloc: Global, line: &[u8]) -> Result<Option<Step>, Memory>
+pub fn read_declaration(alloc: Global, line: &[u8]) -> Result<Option<Step>, Memory>
     ensures { IfOk result (λ step. step ≡ declared_of (words_of line.now)) }
 {
     let Some((server, uuid, version, weight)) = four_words(line) else {
@@ -113,7 +113,7 @@ fn next_group(line: &[u8]) -> Option<GroupWords<'_>>
 
 /// A founding, without its name: UUID MODE HORIZON EXPEL MAJORITY N...
 #[tactic(auto, unfolding(crate::specs::Founding::found_of))]
-fn read_found(alloc: Global, line: &[u8]) -> Result<Option<Step>, Memory>
+pub fn read_found(alloc: Global, line: &[u8]) -> Result<Option<Step>, Memory>
     ensures { IfOk result (λ step. step ≡ found_of (words_of line.now)) }
 {
     let Some(group) = next_group(line) else {

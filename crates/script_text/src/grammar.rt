@@ -10,7 +10,7 @@ use crate::looks::read_look;
 use crate::moves::{read_pace, read_power, read_wire};
 use crate::operators::read_operator;
 use crate::sessions::{read_once, read_session};
-use crate::words::{is_word, next_word};
+use crate::words::{first_named, is_word};
 use gr_ids::Memory;
 use group_rules::Step;
 use std::alloc::Global;
@@ -60,10 +60,7 @@ fn read_line(alloc: Global, line: &[u8], number: u64) -> Result<Option<Line>, Me
     requires { number ≤ 1000000 }
     ensures { IfOk result (λ read. read ≡ line_of number line.now) }
 {
-    if !line.is_empty() && line[0] == b'#' {
-        return Ok(Some(Line { number, step: None }));
-    }
-    let Some((name, rest)) = next_word(line) else {
+    let Some((name, rest)) = first_named(line) else {
         return Ok(Some(Line { number, step: None }));
     };
     let Some(step) = read_step(alloc, number, name, rest)? else {

@@ -12,6 +12,8 @@ mod numbers;
 mod operators;
 mod rows;
 mod scan;
+mod scene;
+mod scenes;
 mod servers;
 mod sessions;
 #[cfg(test)]
@@ -21,4 +23,6 @@ mod words;
 pub use grammar::parse_line;
 pub use line::{Line, LineFault};
 pub use make::make_script;
+pub use scene::{Scene, SceneStep};
+pub use scenes::parse_scene;
 pub use numbers::{numbers_are_decimal, read_number};

@@ -10,7 +10,7 @@ use group_rules::{Operator, Step};
 
 /// An action at a member, its name and what stands behind N.
 #[tactic(auto, unfolding(crate::specs::Operators::action_of))]
-fn read_action(name: &[u8], line: &[u8]) -> Option<Operator>
+pub fn read_action(name: &[u8], line: &[u8]) -> Option<Operator>
     ensures { result ≡ action_of name.now (words_of line.now) }
 {
     if is_word(name, "campaign") {

@@ -29,7 +29,7 @@ fn read_begin(line: &[u8]) -> Option<Request>
 
 /// A session call, its name and what stands behind N and S.
 #[tactic(auto, unfolding(crate::specs::Sessions::request_of))]
-fn read_request(alloc: Global, name: &[u8], line: &[u8]) -> Result<Option<Request>, Memory>
+pub fn read_request(alloc: Global, name: &[u8], line: &[u8]) -> Result<Option<Request>, Memory>
     ensures { IfOk result (λ request. request ≡ request_of name.now (words_of line.now)) }
 {
     if is_word(name, "begin") {
@@ -61,7 +61,7 @@ fn read_request(alloc: Global, name: &[u8], line: &[u8]) -> Result<Option<Reques
 }
 
 /// A session's number, and what stands behind it.
-fn next_session(line: &[u8]) -> Option<(SessionId, &[u8])>
+pub fn next_session(line: &[u8]) -> Option<(SessionId, &[u8])>
     ensures { option_map (λ found. (found.0, words_of found.1.now)) result ≡ first_session (words_of line.now) }
 {
     let (session, rest) = next_number(line, 1, 999_999_999)?;

@@ -2,7 +2,7 @@
 ghost use Rattle.std.specs.Prelude.{◌≡◌};
 ghost use Rattle.std.specs.Option.{option_map};
 ghost use Rattle.std.specs.Str.{bytes_eq};
-ghost use Rattle.script_text.specs.Words.{words_of, first_word, has_none, one_word, two_words as two, three_words as three, four_words as four};
+ghost use Rattle.script_text.specs.Words.{words_of, first_word, named_words, has_none, one_word, two_words as two, three_words as three, four_words as four};
 
 use crate::scan::{behind, find_byte};
 
@@ -21,6 +21,16 @@ pub fn next_word(line: &[u8]) -> Option<(&[u8], &[u8])>
         }
     }
     None
+}
+
+/// The first word of a line that is no comment, and what stands behind it. A comment has no words, or begins with `#`.
+pub fn first_named(line: &[u8]) -> Option<(&[u8], &[u8])>
+    ensures { option_map (λ found. (found.0.now, words_of found.1.now)) result ≡ named_words line.now }
+{
+    if !line.is_empty() && line[0] == b'#' {
+        return None;
+    }
+    next_word(line)
 }
 
 /// Whether no word is left.

@@ -3,7 +3,7 @@ use Rattle.group_rules.specs.declared.said.WireLine.{WireLine}
 use Rattle.group_rules.specs.declared.said.Look.TheVariants.{Wire}
 use Rattle.group_rules.specs.Texts.{look_texts}
 use Rattle.report_text.specs.Lines.{output_lines}
-use Rattle.report_text.proofs.looked.put_look.Goals as goal
+use Rattle.report_text.proofs.looks.put_look.Goals as goal
 
 pub returns-in-Slots : goal.returns-in-Slots
 returns-in-Slots c = rw c.in-Slots.is c.put_slots_line.ensures
