@@ -2,7 +2,6 @@
 use Rattle.std.specs.Prelude.{ℕ, List, Option, Some, None, if◌then◌else◌, codes}
 use Rattle.std.specs.Option.{option_map}
 use Rattle.std.specs.Str.{bytes_eq}
-use Rattle.group_rules.specs.declared.steps.Step.{Step}
 use Rattle.script_text.specs.declared.scene.Scene.{Scene}
 use Rattle.script_text.specs.declared.scene.SceneStep.{SceneStep}
 use Rattle.script_text.specs.declared.scene.SceneStep.TheVariants.{Comment, Step as Sets, Session, Call, Operate}

@@ -23,6 +23,6 @@ mod words;
 pub use grammar::parse_line;
 pub use line::{Line, LineFault};
 pub use make::make_script;
+pub use numbers::{numbers_are_decimal, read_number};
 pub use scene::{Scene, SceneStep};
 pub use scenes::parse_scene;
-pub use numbers::{numbers_are_decimal, read_number};

@@ -20,7 +20,9 @@ use std::alloc::Global;
 fn read_opening(line: &[u8]) -> Option<SceneStep>
     ensures { result ≡ opened_of (words_of line.now) }
 {
-    let (session, rest) = next_session(line)?;
+    let Some((session, rest)) = next_session(line) else {
+        return None;
+    };
     let server = only_server(rest)?;
     Some(SceneStep::Session(session, server))
 }
@@ -43,11 +45,7 @@ fn read_act(
 
 /// A line that begins with the number of a session: that word, and what stands behind it.
 #[tactic(auto, unfolding(crate::specs::Scenes::acted_of))]
-fn read_acted(
-    alloc: Global,
-    session: &[u8],
-    line: &[u8],
-) -> Result<Option<SceneStep>, Memory>
+fn read_acted(alloc: Global, session: &[u8], line: &[u8]) -> Result<Option<SceneStep>, Memory>
     ensures { IfOk result (λ step. step ≡ acted_of session.now (words_of line.now)) }
 {
     let Some(session) = read_number_in(session, 1, 999_999_999) else {
@@ -61,11 +59,7 @@ fn read_acted(
 
 /// What a line says, by its first word and what stands behind it.
 #[tactic(auto, unfolding(crate::specs::Scenes::scene_step_of))]
-fn read_scene_step(
-    alloc: Global,
-    name: &[u8],
-    line: &[u8],
-) -> Result<Option<SceneStep>, Memory>
+fn read_scene_step(alloc: Global, name: &[u8], line: &[u8]) -> Result<Option<SceneStep>, Memory>
     ensures { IfOk result (λ step. step ≡ scene_step_of name.now (words_of line.now)) }
 {
     if is_word(name, "server") {

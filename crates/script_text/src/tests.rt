@@ -1,4 +1,4 @@
-use crate::{LineFault, make_script, parse_line, read_number};
+use crate::{LineFault, make_script, parse_line, parse_scene, read_number};
 use group_rules::Step;
 use std::test::Fail;
 
@@ -134,6 +134,60 @@ show members
 show config 1
 show config 1 0
 show wire 1";
+
+const GOOD_SCENES: &str = "
+# 1 commit
+server 1 aaaaaaaa-aaaa-aaaa-aaaa-aaaaaaaaaaa1 8.0.36 50
+found aaaaaaaa-aaaa-aaaa-aaaa-aaaaaaaaaaaa multi 10 5 0 1 2 3
+session 1 3
+session 999999999 32
+1 begin EVENTUAL 100
+1 get t k
+1 insert t k v
+1 update t k v
+1 delete t k
+1 commit
+1 rollback
+2 campaign
+2 tell
+2 leave
+2 primary 2.1
+2 single
+2 single 2.1
+2 multi";
+
+const BAD_SCENES: &str = "block 1
+session 1
+session 0 1
+session 1 33
+session 1 2 3
+begin 1 1 EVENTUAL 100
+0 commit
+1 commit 1
+1 once insert t k v
+1 donor 2.1
+1 nodonor
+tick 1
+drain
+settle
+01 commit";
+
+#[test]
+fn scenes_are_read_or_refused(rt: HostRuntime) -> Result<(), Fail> {
+    for line in GOOD_SCENES.lines() {
+        assert!(rt;
+            parse_scene(rt.alloc(), line.as_bytes(), 7).is_ok(),
+            "{line}"
+        );
+    }
+    for line in BAD_SCENES.lines() {
+        match parse_scene(rt.alloc(), line.as_bytes(), 7) {
+            Ok(_) => assert!(rt; false, "{line}"),
+            Err(fault) => assert_eq!(rt; fault, LineFault::BadLine, "{line}"),
+        }
+    }
+    Ok(())
+}
 
 #[test]
 fn lines_are_read_or_refused(rt: HostRuntime) -> Result<(), Fail> {
