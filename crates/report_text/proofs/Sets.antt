@@ -1,5 +1,6 @@
 -- Sets of GTIDs in their numerals.
-use Rattle.std.proofs.Common.{◌≡◌, ◌<◌, ◌≤◌, ◌^◌, ◌++◌, ◌∷◌, [], ℕ, zero, suc, List, Bool, true, false, length, codes, refl, sym, ap, ◌∙◌, arith, lit<, eqb}
+use Rattle.std.proofs.Common.{◌≡◌, ◌<◌, ◌≤◌, ◌^◌, ◌++◌, ◌∷◌, []}
+use Rattle.std.proofs.Common.{ℕ, zero, suc, List, Bool, true, false, length, codes, refl, sym, ap, ◌∙◌, arith, lit<, eqb}
 use Rattle.std.specs.List.{flat_map}
 use Rattle.std.specs.Fmt.{decimal as std_decimal}
 use Rattle.std.specs.Str.{bytes_eq, IsAscii, IsUtf8}
@@ -33,7 +34,10 @@ unfolding IsSmall AreSmall HasSmall
 small_first r [] h hs = ((h, tt), tt)
 small_first r (s ∷ ss) h hs = go (bytes_eq r.source s.uuid)
   where
-    go : (b : Bool) → HasSmall (elim b [ true ↦ record { uuid = s.uuid; intervals = interval_of r ∷ s.intervals } ∷ ss | false ↦ record { uuid = r.source; intervals = interval_of r ∷ [] } ∷ s ∷ ss ])
+    go : (b : Bool) → HasSmall (elim b [
+      | true ↦ record { uuid = s.uuid; intervals = interval_of r ∷ s.intervals } ∷ ss
+      | false ↦ record { uuid = r.source; intervals = interval_of r ∷ [] } ∷ s ∷ ss
+    ])
     go true = ((h, hs.0), hs.1)
     go false = ((h, tt), hs)
 
@@ -51,9 +55,13 @@ span_is : (i : Interval) → IsSmall i → span_text_by std_decimal i ≡ span_t
 unfolding IsSmall
 span_is i h = go (eqb i.first i.last)
   where
-    go : (b : Bool) → ◌≡◌ {A = List ℕ} (elim b [ true ↦ std_decimal i.first | false ↦ std_decimal i.first ++ (45 ∷ std_decimal i.last) ]) (elim b [ true ↦ decimal i.first | false ↦ decimal i.first ++ (45 ∷ decimal i.last) ])
+    go : (b : Bool) → ◌≡◌ {A = List ℕ}
+        (elim b [ true ↦ std_decimal i.first | false ↦ std_decimal i.first ++ (45 ∷ std_decimal i.last) ])
+        (elim b [ true ↦ decimal i.first | false ↦ decimal i.first ++ (45 ∷ decimal i.last) ])
     go true = sym (numerals i.first h.0)
-    go false = ap (λ (t : List ℕ). t ++ (45 ∷ std_decimal i.last)) (sym (numerals i.first h.0)) ∙ ap (λ (t : List ℕ). decimal i.first ++ (45 ∷ t)) (sym (numerals i.last h.1))
+    go false =
+        ap (λ (t : List ℕ). t ++ (45 ∷ std_decimal i.last)) (sym (numerals i.first h.0))
+        ∙ ap (λ (t : List ℕ). decimal i.first ++ (45 ∷ t)) (sym (numerals i.last h.1))
 
 intervals_are : (is : List Interval) → AreSmall is → flat_map (interval_text_by std_decimal) is ≡ flat_map (interval_text_by decimal) is
 unfolding AreSmall
@@ -116,7 +124,8 @@ span_utf8 i h = go (eqb i.first i.last)
 intervals_utf8 : (is : List Interval) → AreSmall is → IsUtf8 (flat_map (interval_text_by std_decimal) is)
 unfolding AreSmall
 intervals_utf8 [] h = IsUtf8-nil
-intervals_utf8 (i ∷ is) h = IsUtf8-append (interval_text_by std_decimal i) _ (IsUtf8-append (codes ":") _ colon (span_utf8 i h.0)) (intervals_utf8 is h.1)
+intervals_utf8 (i ∷ is) h =
+    IsUtf8-append (interval_text_by std_decimal i) _ (IsUtf8-append (codes ":") _ colon (span_utf8 i h.0)) (intervals_utf8 is h.1)
 
 source_utf8 : (s : Source) → AreSmall s.intervals → IsUtf8 (source_text_by std_decimal s)
 source_utf8 s h = IsUtf8-append (uuid_text s.uuid) _ (uuid_text-IsUtf8 s.uuid) (intervals_utf8 s.intervals h)
@@ -124,7 +133,8 @@ source_utf8 s h = IsUtf8-append (uuid_text s.uuid) _ (uuid_text-IsUtf8 s.uuid) (
 others_utf8 : (ss : List Source) → HasSmall ss → IsUtf8 (flat_map (joined_text_by std_decimal) ss)
 unfolding HasSmall
 others_utf8 [] h = IsUtf8-nil
-others_utf8 (s ∷ ss) h = IsUtf8-append (joined_text_by std_decimal s) _ (IsUtf8-append (codes ",") _ comma (source_utf8 s h.0)) (others_utf8 ss h.1)
+others_utf8 (s ∷ ss) h =
+    IsUtf8-append (joined_text_by std_decimal s) _ (IsUtf8-append (codes ",") _ comma (source_utf8 s h.0)) (others_utf8 ss h.1)
 
 sources_utf8 : (ss : List Source) → HasSmall ss → IsUtf8 (sources_text_by std_decimal ss)
 unfolding HasSmall

@@ -17,8 +17,9 @@ pub report_without : (w : WorldReport) → has_float (report_data w) ≡ false
 report_without w = ap (λ (t : Bool). t || false) (members_without w.members)
 
 -- one more member
-pub values_more : (vs ws : List Value) (v : Value) (ms : List MemberReport) (i : ℕ) (m : MemberReport) → i < length ms → m ≡ get_or ms i m → view v ≡ member_data m
-    → map view vs ≡ map member_data (take i ms) → ws ≡ vs ++ v ∷ [] → map view ws ≡ map member_data (take (i + 1) ms)
+pub values_more : (vs ws : List Value) (v : Value) (ms : List MemberReport) (i : ℕ) (m : MemberReport)
+    → i < length ms → m ≡ get_or ms i m → view v ≡ member_data m → map view vs ≡ map member_data (take i ms) → ws ≡ vs ++ v ∷ []
+    → map view ws ≡ map member_data (take (i + 1) ms)
 values_more vs ws v ms i m within at same so_far pushed =
     ap (map view) pushed ∙ map-append view vs (v ∷ [])
     ∙ ap (λ (ds : List Data). ds ++ view v ∷ []) so_far ∙ ap (λ (d : Data). map member_data (take i ms) ++ d ∷ []) (same ∙ ap member_data at)

@@ -4,7 +4,9 @@ use Rattle.group_rules.specs.Script.{Refusal, Declared, NoServer, AlreadyRunning
 use Rattle.group_rules.specs.Texts.{Text, decimal, refusal_text, limit_text}
 use Rattle.report_text.specs.Lines.{output_line}
 use Rattle.report_text.specs.declared.fault.WorldFault.{WorldFault}
-use Rattle.report_text.specs.declared.fault.WorldFault.TheVariants.{Declared as NumberTaken, NoServer as ServerMissing, AlreadyRunning as ServerRuns, NoMessage as MessageMissing, MessageLost as MessageGone, NoMember as MemberMissing, WireFull, Spent, Memory}
+use Rattle.report_text.specs.declared.fault.WorldFault.TheVariants.{Declared as NumberTaken, NoServer as ServerMissing, AlreadyRunning as ServerRuns}
+use Rattle.report_text.specs.declared.fault.WorldFault.TheVariants.{NoMessage as MessageMissing, MessageLost as MessageGone}
+use Rattle.report_text.specs.declared.fault.WorldFault.TheVariants.{NoMember as MemberMissing, WireFull, Spent, Memory}
 
 abbrev pub refused : Refusal → Text
 refused r = codes "refused " ++ refusal_text r

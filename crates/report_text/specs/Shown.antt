@@ -1,11 +1,15 @@
 -- What looks show, one thing after another.
-use Rattle.std.specs.Prelude.{ℕ, List, ◌++◌, codes, map}
+use Rattle.std.specs.Prelude.{ℕ, Option, List, ◌++◌, codes, map}
 use Rattle.gr_ids.specs.declared.names.Inc.{Inc}
-use Rattle.group_rules.specs.Texts.{Text, decimal, item_text, gtid_text, done_text, after_inc}
+use Rattle.gr_ids.specs.declared.names.Ballot.{Ballot}
+use Rattle.group_rules.specs.Texts.{Text, decimal, item_text, gtid_text, done_text, promise_text, after_inc}
 use Rattle.group_rules.specs.declared.said.Row.{Row}
 use Rattle.group_rules.specs.declared.said.QueuedPlace.{QueuedPlace}
 use Rattle.group_rules.specs.declared.said.ItemWriter.{ItemWriter}
 use Rattle.report_text.specs.Lines.{output_line, output_lines}
+
+abbrev pub slots_shown : ℕ → ℕ → Option Ballot → Text
+slots_shown next place promise = codes "slots next " ++ decimal next ++ codes " place " ++ decimal place ++ codes " promise " ++ promise_text promise
 
 abbrev pub row_shown : Row → Text
 row_shown r = codes "row " ++ item_text r.item ++ codes " " ++ r.value

@@ -1,6 +1,7 @@
 // The texts of names, each put behind a text. Where memory is refused, what stands behind the text isn't said.
 ghost use Rattle.std.specs.Prelude.{◌≡◌, ◌++◌, OnOk};
-ghost use Rattle.group_rules.specs.Texts.{decimal, inc_text, id_text, gtid_text, set_text, inc_or_dash, ballot_text, promise_text, session_text, item_text, state_text, mode_text};
+ghost use Rattle.group_rules.specs.Texts.{decimal, inc_text, id_text, gtid_text, set_text, inc_or_dash, ballot_text, promise_text};
+ghost use Rattle.group_rules.specs.Texts.{session_text, item_text, state_text, mode_text};
 
 use gr_ids::{Ballot, Blob, Gtid, Inc, MemberState, Memory, Mode, SessionId, ValueId, write_uuid};
 use gtid_sets::GtidSet;

@@ -3,7 +3,7 @@ ghost use Rattle.std.specs.Prelude.{◌≡◌, ◌++◌, OnOk, codes};
 ghost use Rattle.std.specs.List.{flat_map};
 ghost use Rattle.group_rules.specs.Texts.{config_text, decimal, done_text, inc_text, kind_text};
 ghost use Rattle.group_rules.specs.Texts.{member_text, mode_text, primary_text, promise_text, shown_text, wire_text};
-ghost use Rattle.report_text.specs.Shown.{place_shown, row_shown, writer_shown};
+ghost use Rattle.report_text.specs.Shown.{place_shown, row_shown, slots_shown, writer_shown};
 
 use crate::names::{mode_name, put_item, put_promise, state_name};
 use crate::worded::{put_after, put_gtid_after, put_inc_after, put_number_after, put_place_after};
@@ -76,7 +76,7 @@ pub fn put_slots(
     place: Pos,
     promise: Option<Ballot>,
 ) -> Result<(), Memory>
-    ensures { OnOk result (to.new ≡ to.old ++ (codes "slots next " ++ decimal next ++ codes " place " ++ decimal place ++ codes " promise " ++ promise_text promise)) }
+    ensures { OnOk result (to.new ≡ to.old ++ slots_shown next place promise) }
 {
     put_number_after(to, b"slots next ", next)?;
     put_place_after(to, b" place ", place)?;

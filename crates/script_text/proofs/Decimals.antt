@@ -1,5 +1,6 @@
 -- A number is read from its decimal, and from nothing else.
-use Rattle.std.proofs.Common.{◌≡◌, ◌==◌, ◌<◌, ◌≤◌, ◌^◌, ◌&&◌, ◌||◌, not, cond, true, false, Bool, ℕ, List, length, get_or, Some, None, refl, sym, ap, subst, ◌∙◌, arith, rules, ltb, inl, inr}
+use Rattle.std.proofs.Common.{◌≡◌, ◌==◌, ◌<◌, ◌≤◌, ◌^◌, ◌&&◌, ◌||◌, not, cond, true, false, Bool, ℕ, List, length, get_or, Some, None}
+use Rattle.std.proofs.Common.{refl, sym, ap, subst, ◌∙◌, arith, rules, ltb, inl, inr}
 use Rattle.std.proofs.lemmas.Bool.{cases_lt}
 use Rattle.std.specs.List.{list_all}
 use Rattle.std.specs.Char.{is_ascii_digit}
@@ -51,7 +52,8 @@ one_zero n small z = elim (cases_lt 0 n) [ inl some ↦ absurd (let f = first_de
 plain_decimal : (n : ℕ) → n < 2 ^ 64 → is_plain (decimal n) ≡ true
 plain_decimal n small =
     let filled : ltb 0 (length (decimal n)) ≡ true = let f = decimal_nonempty n small in grind (arith, nat_tests) in
-    plain_from (list_all is_ascii_digit (decimal n)) (ltb 0 (length (decimal n))) (get_or (decimal n) 0 0 == 48) (length (decimal n) == 1) (digits_decimal own n small) filled (one_zero n small)
+    plain_from (list_all is_ascii_digit (decimal n)) (ltb 0 (length (decimal n))) (get_or (decimal n) 0 0 == 48) (length (decimal n) == 1)
+    (digits_decimal own n small) filled (one_zero n small)
 
 pub from_decimal : (w : List ℕ) (n : ℕ) → n < 2 ^ 64 → w ≡ decimal n → number_of w ≡ Some n
 unfolding number_of

@@ -17,7 +17,8 @@ call_of number name ws = if bytes_eq name (codes "once") then once_of number ws 
 
 -- The step of a line that begins with this word: that of the one form that has it. None stands for a line that isn't in the grammar.
 unfoldable pub step_of : ℕ → Text → List Text → Option Step
-step_of number name ws = call_of number name ws <|> setting_of name ws <|> operator_of name ws <|> wire_of name ws <|> pace_of name ws <|> power_of name ws <|> look_of name ws
+step_of number name ws =
+    call_of number name ws <|> setting_of name ws <|> operator_of name ws <|> wire_of name ws <|> pace_of name ws <|> power_of name ws <|> look_of name ws
 
 -- a line of these words, or a comment
 abbrev pub line_by : ℕ → Option (Text × List Text) → Option Line

@@ -2,7 +2,8 @@
 use Rattle.std.specs.Prelude.{ℕ, ◌-◌, ◌^◌, List, Option, Some, None, if◌then◌else◌, codes}
 use Rattle.std.specs.Str.{bytes_eq}
 use Rattle.group_rules.specs.declared.steps.Step.{Step}
-use Rattle.group_rules.specs.declared.steps.Step.TheVariants.{ShowMembers, ShowSlots, ShowConfig, ShowGtids, ShowRows, ShowQueue, ShowCertifier, ShowKept, ShowWire}
+use Rattle.group_rules.specs.declared.steps.Step.TheVariants.{ShowMembers, ShowSlots, ShowConfig, ShowGtids, ShowRows, ShowQueue}
+use Rattle.group_rules.specs.declared.steps.Step.TheVariants.{ShowCertifier, ShowKept, ShowWire}
 use Rattle.script_text.specs.Words.{Text, ◌>>=◌, first_word, no_words}
 use Rattle.script_text.specs.Numbers.{only_number}
 use Rattle.script_text.specs.Servers.{first_server, only_server}

@@ -1,5 +1,6 @@
 -- Scripts that are made: so many steps, drawn from a number.
-use Rattle.std.specs.Prelude.{ℕ, zero, suc, ◌+◌, ◌*◌, ◌/◌, ◌%◌, ◌^◌, ◌==◌, nat_lt, List, [], ◌∷◌, ◌++◌, Some, None, codes, decimal, replicate, if◌then◌else◌}
+use Rattle.std.specs.Prelude.{ℕ, zero, suc, ◌+◌, ◌*◌, ◌/◌, ◌%◌, ◌^◌, ◌==◌, nat_lt, List, [], ◌∷◌, ◌++◌, Some, None, codes, decimal}
+use Rattle.std.specs.Prelude.{replicate, if◌then◌else◌}
 use Rattle.group_rules.specs.Names.{Item, ChangeKind, Inserts, Updates, Multi}
 use Rattle.group_rules.specs.declared.requests.Operator.TheVariants.{Tell}
 use Rattle.group_rules.specs.declared.steps.Step.{Step}

@@ -1,5 +1,6 @@
 -- The numbers of a script: decimal, without a sign and without a leading zero.
-use Rattle.std.specs.Prelude.{ℕ, ◌^◌, List, [], ◌∷◌, length, Bool, not, ◌==◌, ◌&&◌, ◌||◌, nat_lt, nat_le, slice_index, Option, Some, None, if◌then◌else◌}
+use Rattle.std.specs.Prelude.{ℕ, ◌^◌, List, [], ◌∷◌, length, Bool, not, ◌==◌, ◌&&◌, ◌||◌, nat_lt, nat_le, slice_index, Option, Some, None}
+use Rattle.std.specs.Prelude.{if◌then◌else◌}
 use Rattle.std.specs.List.{list_all}
 use Rattle.std.specs.Option.{option_map}
 use Rattle.std.specs.Char.{is_ascii_digit}

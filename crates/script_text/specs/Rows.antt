@@ -17,7 +17,9 @@ item_of ws = do
 unfoldable pub row_of : List Text → Option Row
 row_of ws = do
   (table, key, value) ← three_words ws
-  if is_table table && is_text 255 key && is_text 60000 value then Some (record { item = record { table = table; key = key }; value = value }) else None
+  if is_table table && is_text 255 key && is_text 60000 value
+      then Some (record { item = record { table = table; key = key }; value = value })
+      else None
 
 -- `insert TABLE KEY VALUE`, `update TABLE KEY VALUE`, `delete TABLE KEY`
 unfoldable pub change_of : Text → List Text → Option Change

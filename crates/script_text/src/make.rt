@@ -1,6 +1,7 @@
 // Scripts that are made.
 ghost use Rattle.std.specs.Prelude.{◌≡◌, ◌≤◌, IfOk, string_bytes};
-ghost use Rattle.script_text.specs.Make.{after_draw, draw, founding, key_of, line_with, lines_up_to, made, once_step, state_before, step_by, step_drawn, value_of};
+ghost use Rattle.script_text.specs.Make.{after_draw, draw, founding, key_of, line_with, lines_up_to, made, once_step, state_before};
+ghost use Rattle.script_text.specs.Make.{step_by, step_drawn, value_of};
 
 use crate::line::Line;
 use gr_ids::{Blob, Memory, Mode, Sequence, SessionId};

@@ -2,7 +2,8 @@
 ghost use Rattle.std.specs.Prelude.{◌≡◌, length};
 ghost use Rattle.std.specs.List.{list_all};
 ghost use Rattle.script_text.specs.Words.{words_of};
-ghost use Rattle.script_text.specs.Names.{inc_of, only_inc as the_inc, inc_or_none as maybe_inc, is_table, is_table_byte, is_text, is_visible, level_of, mode_of};
+ghost use Rattle.script_text.specs.Names.{inc_of, only_inc as the_inc, inc_or_none as maybe_inc, is_table, is_table_byte, is_text};
+ghost use Rattle.script_text.specs.Names.{is_visible, level_of, mode_of};
 
 use crate::numbers::read_number_in;
 use crate::scan::{behind, find_byte};

@@ -2,7 +2,8 @@
 ghost use Rattle.std.specs.Prelude.{◌≡◌};
 ghost use Rattle.std.specs.Option.{option_map};
 ghost use Rattle.std.specs.Str.{bytes_eq};
-ghost use Rattle.script_text.specs.Words.{words_of, first_word, named_words, has_none, one_word, two_words as two, three_words as three, four_words as four};
+ghost use Rattle.script_text.specs.Words.{words_of, first_word, named_words, has_none, one_word, two_words as two, three_words as three};
+ghost use Rattle.script_text.specs.Words.{four_words as four};
 
 use crate::scan::{behind, find_byte};
 

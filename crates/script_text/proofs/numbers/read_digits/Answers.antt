@@ -36,4 +36,5 @@ returns c =
     let reads = rw same at c.parse.ensures.value.0 in
     let filled : 0 < length w = grind (arith, nat_tests, digits.1) in
     let P : Option ℕ → Type 0 = λ o. SomeIff o (digits_value 10 w < 2 ^ 64) (digits_value 10 w) in
-    subst P (sym c.ok.ensures.value) (some_if c.parse.result (0 < length w) (digits_value 10 w < 2 ^ 64) (digits_value 10 w) (parse_digits own 64 w c.parse.result reads digits.0) filled)
+    subst P (sym c.ok.ensures.value)
+    (some_if c.parse.result (0 < length w) (digits_value 10 w < 2 ^ 64) (digits_value 10 w) (parse_digits own 64 w c.parse.result reads digits.0) filled)
