@@ -1,9 +1,8 @@
 -- Numbers in decimal digits.
-use Rattle.std.proofs.Common.{◌≡◌, ◌<◌, ◌≤◌, ◌^◌, ◌/◌, ◌%◌, ◌+◌, ◌++◌, ◌∷◌, [], ℕ, suc}
-use Rattle.std.proofs.Common.{List, Bool, true, false, refl, sym, ap, ◌∙◌, append_assoc, arith, rules, ltb}
+use Rattle.std.proofs.Common.{◌≡◌, ◌<◌, ◌^◌, ◌++◌, ◌∷◌, [], ℕ}
+use Rattle.std.proofs.Common.{List, sym, ap, ◌∙◌, append_assoc, arith, rules}
 use Rattle.std.specs.Fmt.{decimal as std_decimal}
 use Rattle.std.proofs.lemmas.Fmt.{AppendsLastDigit, decimal_from_appends, length-decimal-le}
-use Rattle.std.proofs.lemmas.Bool.Decides.{nat_tests}
 use Rattle.group_rules.specs.Texts.{digits, decimal, inc_text}
 
 own : AppendsLastDigit digits

@@ -1,5 +1,5 @@
 -- Sets of GTIDs in their numerals.
-use Rattle.std.proofs.Common.{◌≡◌, ◌<◌, ◌≤◌, ◌^◌, ◌++◌, ◌∷◌, []}
+use Rattle.std.proofs.Common.{◌≡◌, ◌<◌, ◌^◌, ◌++◌, ◌∷◌, []}
 use Rattle.std.proofs.Common.{ℕ, zero, suc, List, Bool, true, false, length, codes, refl, sym, ap, ◌∙◌, arith, lit<, eqb}
 use Rattle.std.specs.List.{flat_map}
 use Rattle.std.specs.Fmt.{decimal as std_decimal}

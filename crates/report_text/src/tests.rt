@@ -731,8 +731,7 @@ fn reports(rt: HostRuntime) -> Result<(), Fail> {
         messages: 12,
     };
     let text = report(alloc, &world)?;
-    let expected =
-        "{\"lines\":4,\"members\":[\
+    let expected = "{\"lines\":4,\"members\":[\
         {\"executed\":\"aaaaaaaa-aaaa-aaaa-aaaa-aaaaaaaaaaaa:1-3:5\",\"inc\":\"1.1\",\"place\":1,\"rows\":2,\"state\":\"ONLINE\",\"view\":1},\
         {\"executed\":\"\",\"inc\":\"2.3\",\"place\":0,\"rows\":0,\"state\":\"OFFLINE\",\"view\":0}],\"messages\":12}";
     assert_eq!(rt; text.as_slice(), expected.as_bytes());

@@ -11,5 +11,5 @@ returns-in-Slots c = rw c.in-Slots.is c.put_slots_line.ensures
 pub returns-in-Wire : goal.returns-in-Wire
 returns-in-Wire c =
     let said = λ (messages : List WireLine). OnOk c.put_messages.result
-        (c.put_messages.new.to ≡ c.args.to.now ++ output_lines c.args.number (look_texts (Wire messages c.in-Wire.sent))) in
+    (c.put_messages.new.to ≡ c.args.to.now ++ output_lines c.args.number (look_texts (Wire messages c.in-Wire.sent))) in
     rw c.in-Wire.is (subst said c.as_slice-in-Wire.ensures c.put_messages.ensures)

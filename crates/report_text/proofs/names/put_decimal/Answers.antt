@@ -1,4 +1,4 @@
-use Rattle.std.proofs.Common.{◌≡◌, ◌++◌, List, ℕ, OnOk, sym, subst, ◌∙◌, arith}
+use Rattle.std.proofs.Common.{◌≡◌, ◌++◌, List, ℕ, OnOk, sym, subst, ◌∙◌}
 use Rattle.report_text.proofs.Numerals.{numerals}
 use Rattle.report_text.proofs.names.put_decimal.Goals as goal
 

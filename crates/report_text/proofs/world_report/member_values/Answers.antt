@@ -1,4 +1,3 @@
-use Rattle.std.proofs.Common.{arith}
 use Rattle.report_text.proofs.Values.{values_more}
 use Rattle.report_text.proofs.world_report.member_values.Goals as goal
 

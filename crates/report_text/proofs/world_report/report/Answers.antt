@@ -1,7 +1,5 @@
-use Rattle.std.proofs.Common.{◌≡◌, ◌∙◌, ap, string_bytes, subst}
+use Rattle.std.proofs.Common.{◌∙◌}
 use Rattle.std.proofs.lemmas.Result.{IfOk-weaker}
-use Rattle.serde_json.specs.Written.{compact_text}
-use Rattle.report_text.specs.Reports.{report_data}
 use Rattle.report_text.proofs.Values.{report_without}
 use Rattle.report_text.proofs.world_report.report.Goals as goal
 
