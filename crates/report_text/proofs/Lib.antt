@@ -1,0 +1,4 @@
+pub mod Numerals
+pub mod Sets
+pub mod Limits
+pub mod Values

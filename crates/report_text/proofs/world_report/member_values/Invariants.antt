@@ -1,0 +1,7 @@
+use Rattle.std.proofs.Common.{◌≡◌, map, take}
+use Rattle.serde_json.specs.View.{view}
+use Rattle.report_text.specs.Reports.{member_data}
+use Rattle.report_text.proofs.world_report.member_values.Given as goal
+
+abbrev pub invariant-loop-member : goal.invariant-loop-member
+invariant-loop-member l = map view l.values.items ≡ map member_data (take l.member-index l.members)

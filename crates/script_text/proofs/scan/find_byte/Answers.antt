@@ -1,0 +1,12 @@
+use Rattle.std.proofs.Common.{◌==◌, length, sym, arith, eq-eqb}
+use Rattle.std.proofs.lemmas.List.Sums.{position_or_len_is}
+use Rattle.script_text.proofs.scan.find_byte.Goals as goal
+
+pub returns-then-b-byte : goal.returns-then-b-byte
+returns-then-b-byte c =
+    sym (position_or_len_is (λ b. b == c.args.byte) c.args.bytes.now c.loop-i.i 0 (omega arith) c.loop-i.invariant (λ _. eq-eqb _ _ c.if-b-byte.true))
+
+pub returns : goal.returns
+returns c =
+    sym (position_or_len_is (λ b. b == c.args.byte) c.args.bytes.now (length c.args.bytes.now) 0
+    (omega arith) (λ k h. c.loop-i.invariant k (omega arith)) (λ h. absurd (omega arith)))

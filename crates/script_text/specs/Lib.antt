@@ -1,0 +1,13 @@
+pub mod Words
+pub mod Numbers
+pub mod Names
+pub mod Servers
+pub mod Rows
+pub mod Sessions
+pub mod Operators
+pub mod Founding
+pub mod Moves
+pub mod Looks
+pub mod Grammar
+pub mod Make
+pub mod Scenes
