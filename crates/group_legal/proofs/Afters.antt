@@ -6,7 +6,7 @@ use Rattle.gtid_sets.specs.Sets.{Gtids, has}
 use Rattle.node_rules.specs.Lists.{In}
 use Rattle.group_rules.specs.declared.answers.Answer.TheVariants.{Committed as CommittedAs}
 use Rattle.group_rules.specs.Events.{Committed, Answered, Setup, Cert}
-use Rattle.group_rules.specs.Life.{state, is_up, view, taken}
+use Rattle.group_rules.specs.Life.{state, is_up, view, taken, certs}
 use Rattle.group_rules.specs.View.{is_seated}
 use Rattle.group_rules.specs.Commit.{complete}
 use Rattle.group_rules.specs.OneList.{listed}
@@ -53,11 +53,14 @@ module _ (t : Setup) (w : Past) (one : OneLogOf t w) (done : AllDid (IsDone t) w
     ready : IsReady t i (life_in p i)
     ready = elim (ready_or t i (given i) (life_in p i) (shape_of t i (given i) (life_in p i) moment.always answered.0.begun)) [
       | inl y ↦ y
-      | inr e ↦ absurd (subst (In k.cert) (unready t i (given i) (life_in p i) e.0 e.1).0 (certs_stay t i (given i) (life_in p i) k.past k.cert (past_tail (Committed c.gtid) k.past (life_in p i) k.mark) moment.lived moment.always k.certified))
+      | inr e ↦ absurd (subst (In k.cert) (unready t i (given i) (life_in p i) e.0 e.1).0 here)
     ]
       where
         k : IsAcknowledged i (life_in p i) c.gtid
         k = answered.1.1
+
+        here : In k.cert (certs (life_in p i))
+        here = certs_stay t i (given i) (life_in p i) k.past k.cert (past_tail (Committed c.gtid) k.past (life_in p i) k.mark) moment.lived moment.always k.certified
 
     some : 0 < length (life_in p i)
     some = let b = answered.0.begun in omega (arith, b)
@@ -69,7 +72,10 @@ module _ (t : Setup) (w : Past) (one : OneLogOf t w) (done : AllDid (IsDone t) w
     had : lives.taken (run.life (run_of given p) i) ≡ law.values (list_of t part.before)
     had =
         ap lives.taken (lives_agree given p i)
-        ∙ ap law.values (moment.judged ready some ∙ ap (λ n. upto n (list_of t one.log)) (sym (part.long (moment.within ready some))) ∙ sym (past_is_upto (list_of t part.before) (list_of t one.log) part.past))
+        ∙ ap law.values
+        (moment.judged ready some
+        ∙ ap (λ n. upto n (list_of t one.log)) (sym (part.long (moment.within ready some)))
+        ∙ sym (past_is_upto (list_of t part.before) (list_of t one.log) part.past))
 
     kept : AfterKept t (run_of given w) i (run_of given p) (law_cert c)
     kept = acks.after_law t (law.values (list_of t one.log)) (run_of given w) r.run i (run_of given p) (law_cert c) (record {

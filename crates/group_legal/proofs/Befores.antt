@@ -9,7 +9,7 @@ use Rattle.gr_ids.specs.Names.{inc_eq}
 use Rattle.gtid_sets.specs.Sets.{Gtids}
 use Rattle.node_rules.proofs.Incs.{inc_is}
 use Rattle.paxos_forms.specs.declared.welcome.Welcome.{Welcome}
-use Rattle.group_rules.specs.Events.{Founds, Starts, Came, Made, Took, Skips, Done, Committed, Is, Gave, Answered, Begun, Changed, Replied, Called, AsksCommit, Ends, Enters, Restores, AskFails, Life, Setup, Entry}
+use Rattle.group_rules.specs.Events.{Did, Founds, Starts, Came, Made, Took, Skips, Done, Committed, Is, Gave, Answered, Begun, Changed, Replied, Called, AsksCommit, Ends, Enters, Restores, AskFails, Life, Setup, Entry}
 use Rattle.group_rules.specs.Life.{taken, own_place, entered, has_give, last_made}
 use Rattle.group_rules.specs.declared.holds.Conditions.{Conditions}
 use Rattle.group_rules.specs.declared.holds.Pending.{Pending}
@@ -58,35 +58,39 @@ record OwnAt (l : Life) (i : Inc) (n p : ℕ) : Type 0 where
   origin : entry.value.id.origin ≡ i
   number : entry.value.id.number ≡ n
 
+own_before : (d : Did) (l : Life) (i : Inc) (n p : ℕ) → OwnAt l i n p → OwnAt (d ∷ l) i n p
+own_before d l i n p k = record { entry = k.entry; before = k.before; past = inr k.past; place = k.place; origin = k.origin; number = k.number }
+
 own_at : (l : Life) (i : Inc) (n p : ℕ) → own_place l i n ≡ Some p → OwnAt l i n p
 own_at [] i n p h = absurd (cc h)
 own_at (Took e ∷ l) i n p h = go (inc_eq e.value.id.origin i && (e.value.id.number == n)) refl h (own_at l i n p)
   where
-    go : (b : Bool) → (inc_eq e.value.id.origin i && (e.value.id.number == n)) ≡ b → ◌≡◌ {A = Option ℕ} (elim b [ true ↦ Some e.place | false ↦ own_place l i n ]) (Some p) → (own_place l i n ≡ Some p → OwnAt l i n p) → OwnAt (Took e ∷ l) i n p
+    go : (b : Bool) → (inc_eq e.value.id.origin i && (e.value.id.number == n)) ≡ b → ◌≡◌ {A = Option ℕ} (elim b [ true ↦ Some e.place | false ↦ own_place l i n ]) (Some p)
+        → (own_place l i n ≡ Some p → OwnAt l i n p) → OwnAt (Took e ∷ l) i n p
     go true q z k =
         let x = and_parts (inc_eq e.value.id.origin i) (e.value.id.number == n) q in
         let y : e.place ≡ p = cc z in
         record { entry = e; before = l; past = inl refl; place = y; origin = inc_is e.value.id.origin i x.0; number = eqb-true e.value.id.number n x.1 }
-    go false q z k = let m = k z in record { entry = m.entry; before = m.before; past = inr m.past; place = m.place; origin = m.origin; number = m.number }
-own_at (Founds ∷ l) i n p h = let k = own_at l i n p h in record { entry = k.entry; before = k.before; past = inr k.past; place = k.place; origin = k.origin; number = k.number }
-own_at (Starts x ∷ l) i n p h = let k = own_at l i n p h in record { entry = k.entry; before = k.before; past = inr k.past; place = k.place; origin = k.origin; number = k.number }
-own_at (Came x ∷ l) i n p h = let k = own_at l i n p h in record { entry = k.entry; before = k.before; past = inr k.past; place = k.place; origin = k.origin; number = k.number }
-own_at (Made v y ∷ l) i n p h = let k = own_at l i n p h in record { entry = k.entry; before = k.before; past = inr k.past; place = k.place; origin = k.origin; number = k.number }
-own_at (Skips s v ∷ l) i n p h = let k = own_at l i n p h in record { entry = k.entry; before = k.before; past = inr k.past; place = k.place; origin = k.origin; number = k.number }
-own_at (Done q ∷ l) i n p h = let k = own_at l i n p h in record { entry = k.entry; before = k.before; past = inr k.past; place = k.place; origin = k.origin; number = k.number }
-own_at (Committed g ∷ l) i n p h = let k = own_at l i n p h in record { entry = k.entry; before = k.before; past = inr k.past; place = k.place; origin = k.origin; number = k.number }
-own_at (Is x c ∷ l) i n p h = let k = own_at l i n p h in record { entry = k.entry; before = k.before; past = inr k.past; place = k.place; origin = k.origin; number = k.number }
-own_at (Gave a b ∷ l) i n p h = let k = own_at l i n p h in record { entry = k.entry; before = k.before; past = inr k.past; place = k.place; origin = k.origin; number = k.number }
-own_at (Answered s a ∷ l) i n p h = let k = own_at l i n p h in record { entry = k.entry; before = k.before; past = inr k.past; place = k.place; origin = k.origin; number = k.number }
-own_at (Begun s a b ∷ l) i n p h = let k = own_at l i n p h in record { entry = k.entry; before = k.before; past = inr k.past; place = k.place; origin = k.origin; number = k.number }
-own_at (Changed s c ∷ l) i n p h = let k = own_at l i n p h in record { entry = k.entry; before = k.before; past = inr k.past; place = k.place; origin = k.origin; number = k.number }
-own_at (Replied x ∷ l) i n p h = let k = own_at l i n p h in record { entry = k.entry; before = k.before; past = inr k.past; place = k.place; origin = k.origin; number = k.number }
-own_at (Called s v x ∷ l) i n p h = let k = own_at l i n p h in record { entry = k.entry; before = k.before; past = inr k.past; place = k.place; origin = k.origin; number = k.number }
-own_at (AsksCommit s x ∷ l) i n p h = let k = own_at l i n p h in record { entry = k.entry; before = k.before; past = inr k.past; place = k.place; origin = k.origin; number = k.number }
-own_at (Ends s ∷ l) i n p h = let k = own_at l i n p h in record { entry = k.entry; before = k.before; past = inr k.past; place = k.place; origin = k.origin; number = k.number }
-own_at (Enters u ∷ l) i n p h = let k = own_at l i n p h in record { entry = k.entry; before = k.before; past = inr k.past; place = k.place; origin = k.origin; number = k.number }
-own_at (Restores g cs ∷ l) i n p h = let k = own_at l i n p h in record { entry = k.entry; before = k.before; past = inr k.past; place = k.place; origin = k.origin; number = k.number }
-own_at (AskFails ∷ l) i n p h = let k = own_at l i n p h in record { entry = k.entry; before = k.before; past = inr k.past; place = k.place; origin = k.origin; number = k.number }
+    go false q z k = own_before (Took e) l i n p (k z)
+own_at (Founds ∷ l) i n p h = own_before Founds l i n p (own_at l i n p h)
+own_at (Starts x ∷ l) i n p h = own_before (Starts x) l i n p (own_at l i n p h)
+own_at (Came x ∷ l) i n p h = own_before (Came x) l i n p (own_at l i n p h)
+own_at (Made v y ∷ l) i n p h = own_before (Made v y) l i n p (own_at l i n p h)
+own_at (Skips s v ∷ l) i n p h = own_before (Skips s v) l i n p (own_at l i n p h)
+own_at (Done q ∷ l) i n p h = own_before (Done q) l i n p (own_at l i n p h)
+own_at (Committed g ∷ l) i n p h = own_before (Committed g) l i n p (own_at l i n p h)
+own_at (Is x c ∷ l) i n p h = own_before (Is x c) l i n p (own_at l i n p h)
+own_at (Gave a b ∷ l) i n p h = own_before (Gave a b) l i n p (own_at l i n p h)
+own_at (Answered s a ∷ l) i n p h = own_before (Answered s a) l i n p (own_at l i n p h)
+own_at (Begun s a b ∷ l) i n p h = own_before (Begun s a b) l i n p (own_at l i n p h)
+own_at (Changed s c ∷ l) i n p h = own_before (Changed s c) l i n p (own_at l i n p h)
+own_at (Replied x ∷ l) i n p h = own_before (Replied x) l i n p (own_at l i n p h)
+own_at (Called s v x ∷ l) i n p h = own_before (Called s v x) l i n p (own_at l i n p h)
+own_at (AsksCommit s x ∷ l) i n p h = own_before (AsksCommit s x) l i n p (own_at l i n p h)
+own_at (Ends s ∷ l) i n p h = own_before (Ends s) l i n p (own_at l i n p h)
+own_at (Enters u ∷ l) i n p h = own_before (Enters u) l i n p (own_at l i n p h)
+own_at (Restores g cs ∷ l) i n p h = own_before (Restores g cs) l i n p (own_at l i n p h)
+own_at (AskFails ∷ l) i n p h = own_before AskFails l i n p (own_at l i n p h)
 
 -- what is met has its Sync taken
 met_synced : (x : Conditions) (p : Option ℕ) (xs : List Pending) → is_met x p xs ≡ true → is_synced xs x.sync p ≡ true
@@ -96,7 +100,8 @@ met_synced x p xs h =
 
 -- ---- a list has one value of each number of an incarnation
 
-not_before : (t : Setup) (x y : law.Value) (p q k : List law.Value) → IsKeptList t k → listing.IsPast (y ∷ q) k → x.origin ≡ y.origin → x.number ≡ y.number → listing.IsPast (x ∷ p) q → ⊥
+not_before : (t : Setup) (x y : law.Value) (p q k : List law.Value) → IsKeptList t k → listing.IsPast (y ∷ q) k
+    → x.origin ≡ y.origin → x.number ≡ y.number → listing.IsPast (x ∷ p) q → ⊥
 not_before t x y p q k kept there o n h =
     let front = kept_past t (y ∷ q) k there kept in
     let low : x.number ≤ seen.last_kept q x.origin = kept_number t q x front.1 (IsPast-mem (x ∷ p) q x h (inl refl)) in
@@ -104,7 +109,8 @@ not_before t x y p q k kept there o n h =
     let same : seen.last_kept q x.origin ≡ seen.last_kept q y.origin = ap (seen.last_kept q) o in
     omega (arith, low, high, same, n)
 
-one_number : (t : Setup) (x y : law.Value) (p q k : List law.Value) → IsKeptList t k → listing.IsPast (x ∷ p) k → listing.IsPast (y ∷ q) k → x.origin ≡ y.origin → x.number ≡ y.number → length p ≡ length q
+one_number : (t : Setup) (x y : law.Value) (p q k : List law.Value) → IsKeptList t k → listing.IsPast (x ∷ p) k → listing.IsPast (y ∷ q) k
+    → x.origin ≡ y.origin → x.number ≡ y.number → length p ≡ length q
 one_number t x y p q k kept a b o n = by (pasts_compare (x ∷ p) (y ∷ q) k a b)
   where
     same : (x y : law.Value) (p q : List law.Value) → x ∷ p ≡ y ∷ q → length p ≡ length q
@@ -159,12 +165,15 @@ module _ (t : Setup) (w : Past) (one : OneLogOf t w) (done : AllDid (IsDone t) w
   long p i = ap (λ l. length (lives.taken l)) (lives_agree given p i) ∙ values_length (lives.marked (life_of (given i) (life_in p i)))
 
   -- an entry that was taken at an earlier moment is counted
-  counted : (p : Past) → IsPast p w → (i : Inc) (e : Entry) (l : Life) → left.IsPast (Took e ∷ l) (life_in p i) → Sound t i (given i) (Took e ∷ l) × (e.place ≤ length (lives.taken (run.life (run_of given p) i)))
+  counted : (p : Past) → IsPast p w → (i : Inc) (e : Entry) (l : Life) → left.IsPast (Took e ∷ l) (life_in p i)
+      → Sound t i (given i) (Took e ∷ l) × (e.place ≤ length (lives.taken (run.life (run_of given p) i)))
   counted p h i e l k =
       let m = r.moments p h i in
-      let s : Sound t i (given i) (Took e ∷ l) = sound_took t i (given i) e l (lived_past t i (Took e ∷ l) (life_in p i) k m.lived) (sound_past t i (given i) (Took e ∷ l) (life_in p i) k m.always) in
+      let s : Sound t i (given i) (Took e ∷ l) =
+      sound_took t i (given i) e l (lived_past t i (Took e ∷ l) (life_in p i) k m.lived) (sound_past t i (given i) (Took e ∷ l) (life_in p i) k m.always) in
       let here = places_agree t (given i) (Took e ∷ l) s.taking in
-      let up = IsPast-length (lives.marked (life_of (given i) (Took e ∷ l))) (lives.marked (life_of (given i) (life_in p i))) (marked_stays t i (given i) (life_in p i) (Took e ∷ l) k m.lived m.always) in
+      let up = IsPast-length (lives.marked (life_of (given i) (Took e ∷ l))) (lives.marked (life_of (given i) (life_in p i)))
+      (marked_stays t i (given i) (life_in p i) (Took e ∷ l) k m.lived m.always) in
       let all = long p i in
       (s, omega (arith, here, up, all))
 
@@ -189,7 +198,8 @@ module _ (t : Setup) (w : Past) (one : OneLogOf t w) (done : AllDid (IsDone t) w
       welcomed a b None e = let z = none_taken (life_in c j) (((shape.joiner a).unentered e).slots) e in omega (arith, z)
       welcomed a b (Some u) e =
           let k = welcomed_at t w one done c h j u e a b in
-          let was : left.IsPast (Took k.add ∷ life_in k.before k.who) (life_in c k.who) = subst (λ y. left.IsPast y (life_in c k.who)) (did_here k.before k.who (Took k.add)) (history_past (Does k.who (Took k.add) ∷ k.before) c k.who k.earlier) in
+          let was : left.IsPast (Took k.add ∷ life_in k.before k.who) (life_in c k.who) =
+          subst (λ y. left.IsPast y (life_in c k.who)) (did_here k.before k.who (Took k.add)) (history_past (Does k.who (Took k.add) ∷ k.before) c k.who k.earlier) in
           let x = (counted c h k.who k.add (life_in k.before k.who) was).1 in
           let y = k.place in
           let up = f k.who in
@@ -258,13 +268,16 @@ module _ (t : Setup) (w : Past) (one : OneLogOf t w) (done : AllDid (IsDone t) w
 
         there : listing.IsPast ((placed o.entry).value ∷ lives.taken (life_of (given i) o.before)) values
         there = IsPast-trans ((placed o.entry).value ∷ lives.taken (life_of (given i) o.before)) (lives.taken (life_of (given i) (life_in b i))) values
-            (values_past (lives.marked (life_of (given i) (Took o.entry ∷ o.before))) (lives.marked (life_of (given i) (life_in b i))) (marked_stays t i (given i) (life_in b i) (Took o.entry ∷ o.before) o.past m.lived m.always))
-            (subst (λ l. listing.IsPast (lives.taken l) values) (lives_agree given b i) ((begins.inv_at t values (run_of given w) r.run (run_of given b) (point given b w at_b)).past i))
+            (values_past (lives.marked (life_of (given i) (Took o.entry ∷ o.before))) (lives.marked (life_of (given i) (life_in b i)))
+            (marked_stays t i (given i) (life_in b i) (Took o.entry ∷ o.before) o.past m.lived m.always))
+            (subst (λ l. listing.IsPast (lives.taken l) values) (lives_agree given b i)
+            ((begins.inv_at t values (run_of given w) r.run (run_of given b) (point given b w at_b)).past i))
 
         lengths : length (lives.taken (life_of (given i) o.before)) ≡ length reads.front
         lengths =
             one_number t (placed o.entry).value reads.sync (lives.taken (life_of (given i) o.before)) reads.front values r.run.kept there reads.placed
-            (o.origin ∙ sym reads.origin) (o.number ∙ sym (reads.number ∙ sync_is t w one done r i b c v set sync h ∙ ap (λ z. elim z [ true ↦ suc (last_made (life_in c i)) | false ↦ 0 ]) y))
+            (o.origin ∙ sym reads.origin)
+            (o.number ∙ sym (reads.number ∙ sync_is t w one done r i b c v set sync h ∙ ap (λ z. elim z [ true ↦ suc (last_made (life_in c i)) | false ↦ 0 ]) y))
 
     has_place : sync ≡ Some (suc (length reads.front))
     has_place = let k = taken_at (own_place (life_in b i) i number) synced in is_place ∙ k.1 ∙ ap Some (place k.0 k.1)

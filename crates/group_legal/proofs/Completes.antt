@@ -43,11 +43,15 @@ use Rattle.group_legal.proofs.Prefix.{past_is_upto, list_length, list_more, list
 
 -- ---- one value more
 
+-- by whether it is kept
+abbrev grown_if : Setup → Value → List Value → Bool → Life
+grown_if t v log b = listed_by t (listed t log) (suc (length log)) v (if b then KeptAt ((reading_of t log).place + 1) (has_effect (reading_of t log) v.what) else IsSkipped)
+
 grows : (t : Setup) (v : Value) (log : List Value) → is_kept (reading_of t log) v ≡ true → listed t (v ∷ log) ≡ Took (new_entry t v log) ∷ listed t log
-grows t v log e = ap (λ (b : Bool). listed_by t (listed t log) (suc (length log)) v (if b then KeptAt ((reading_of t log).place + 1) (has_effect (reading_of t log) v.what) else IsSkipped)) e
+grows t v log e = ap (grown_if t v log) e
 
 stays : (t : Setup) (v : Value) (log : List Value) → is_kept (reading_of t log) v ≡ false → listed t (v ∷ log) ≡ listed t log
-stays t v log e = ap (λ (b : Bool). listed_by t (listed t log) (suc (length log)) v (if b then KeptAt ((reading_of t log).place + 1) (has_effect (reading_of t log) v.what) else IsSkipped)) e
+stays t v log e = ap (grown_if t v log) e
 
 list_grows : (t : Setup) (v : Value) (log : List Value) → is_kept (reading_of t log) v ≡ true → list_of t (v ∷ log) ≡ placed (new_entry t v log) ∷ list_of t log
 list_grows t v log e = list_more t v log ∙ ap (list_if t v log) e
@@ -56,7 +60,8 @@ list_stays : (t : Setup) (v : Value) (log : List Value) → is_kept (reading_of 
 list_stays t v log e = list_more t v log ∙ ap (list_if t v log) e
 
 -- the place of the entry is the length of the list with it
-new_place : (t : Setup) (v : Value) (log : List Value) → is_kept (reading_of t log) v ≡ true → (length (list_of t (v ∷ log)) ≡ (new_entry t v log).place) × ((new_entry t v log).place ≡ suc (length (list_of t log)))
+new_place : (t : Setup) (v : Value) (log : List Value) → is_kept (reading_of t log) v ≡ true
+    → (length (list_of t (v ∷ log)) ≡ (new_entry t v log).place) × ((new_entry t v log).place ≡ suc (length (list_of t log)))
 new_place t v log e =
     let m = list_length t log in
     let n : length (list_of t (v ∷ log)) ≡ suc (length (list_of t log)) = ap length (list_grows t v log e) in
@@ -72,7 +77,8 @@ pub record PartOfList (t : Setup) (log : List Value) (n : ℕ) (l : Life) : Type
   pub past : listing.IsPast (list_of t before) (list_of t log)
   pub long : n ≤ length (list_of t log) → length (list_of t before) ≡ n
 
-part_more : (t : Setup) (v : Value) (log : List Value) (n : ℕ) (l m : Life) → is_kept (reading_of t log) v ≡ true → n < suc (length (list_of t log)) → l ≡ m → PartOfList t log n m → PartOfList t (v ∷ log) n l
+part_more : (t : Setup) (v : Value) (log : List Value) (n : ℕ) (l m : Life) → is_kept (reading_of t log) v ≡ true → n < suc (length (list_of t log)) → l ≡ m
+    → PartOfList t log n m → PartOfList t (v ∷ log) n l
 part_more t v log n l m e lt q k = record {
   before = k.before;
   is_it = q ∙ k.is_it;
@@ -80,7 +86,8 @@ part_more t v log n l m e lt q k = record {
   long = λ h. k.long (omega (arith, lt));
 }
 
-part_same : (t : Setup) (v : Value) (log : List Value) (n : ℕ) (l m : Life) → is_kept (reading_of t log) v ≡ false → l ≡ m → PartOfList t log n m → PartOfList t (v ∷ log) n l
+part_same : (t : Setup) (v : Value) (log : List Value) (n : ℕ) (l m : Life) → is_kept (reading_of t log) v ≡ false → l ≡ m
+    → PartOfList t log n m → PartOfList t (v ∷ log) n l
 part_same t v log n l m e q k = record {
   before = k.before;
   is_it = q ∙ k.is_it;
@@ -99,7 +106,8 @@ first_part t (v ∷ log) n = go (is_kept (reading_of t log) v) refl (first_part 
     either : Bool → Life
     either b = elim b [ true ↦ Took (new_entry t v log) ∷ listed t log | false ↦ first_places (listed t log) n ]
 
-    by_place : is_kept (reading_of t log) v ≡ true → (b : Bool) → nat_le (new_entry t v log).place n ≡ b → first_places (listed t (v ∷ log)) n ≡ either b → PartOfList t log n (first_places (listed t log) n) → PartOfList t (v ∷ log) n (first_places (listed t (v ∷ log)) n)
+    by_place : is_kept (reading_of t log) v ≡ true → (b : Bool) → nat_le (new_entry t v log).place n ≡ b → first_places (listed t (v ∷ log)) n ≡ either b
+        → PartOfList t log n (first_places (listed t log) n) → PartOfList t (v ∷ log) n (first_places (listed t (v ∷ log)) n)
     by_place e true q here k =
         let z = leb-true (new_entry t v log).place n q in
         let p = new_place t v log e in
@@ -109,7 +117,8 @@ first_part t (v ∷ log) n = go (is_kept (reading_of t log) v) refl (first_part 
         let p = new_place t v log e in
         part_more t v log n (first_places (listed t (v ∷ log)) n) (first_places (listed t log) n) e (omega (arith, p.1, z)) here k
 
-    go : (b : Bool) → is_kept (reading_of t log) v ≡ b → PartOfList t log n (first_places (listed t log) n) → PartOfList t (v ∷ log) n (first_places (listed t (v ∷ log)) n)
+    go : (b : Bool) → is_kept (reading_of t log) v ≡ b → PartOfList t log n (first_places (listed t log) n)
+        → PartOfList t (v ∷ log) n (first_places (listed t (v ∷ log)) n)
     go true e k = by_place e (nat_le (new_entry t v log).place n) refl (ap (λ l. first_places l n) (grows t v log e)) k
     go false e k = part_same t v log n (first_places (listed t (v ∷ log)) n) (first_places (listed t log) n) e (ap (λ l. first_places l n) (stays t v log e)) k
 
@@ -124,7 +133,8 @@ up_to t (v ∷ log) n = go (is_kept (reading_of t log) v) refl (up_to t log n)
     either : Bool → Life
     either b = elim b [ true ↦ Took (new_entry t v log) ∷ listed t log | false ↦ upto (listed t log) n ]
 
-    by_place : is_kept (reading_of t log) v ≡ true → (b : Bool) → ((new_entry t v log).place == n) ≡ b → upto (listed t (v ∷ log)) n ≡ either b → UpToPlace t log n → UpToPlace t (v ∷ log) n
+    by_place : is_kept (reading_of t log) v ≡ true → (b : Bool) → ((new_entry t v log).place == n) ≡ b → upto (listed t (v ∷ log)) n ≡ either b
+        → UpToPlace t log n → UpToPlace t (v ∷ log) n
     by_place e true q here k =
         let z = eqb-true (new_entry t v log).place n q in
         let p = new_place t v log e in
@@ -138,7 +148,10 @@ up_to t (v ∷ log) n = go (is_kept (reading_of t log) v) refl (up_to t log n)
     go : (b : Bool) → is_kept (reading_of t log) v ≡ b → UpToPlace t log n → UpToPlace t (v ∷ log) n
     go true e k = by_place e ((new_entry t v log).place == n) refl (ap (λ l. upto l n) (grows t v log e)) k
     go false e (inl x) = inl (ap (λ l. upto l n) (stays t v log e) ∙ x)
-    go false e (inr x) = inr (part_same t v log n (upto (listed t (v ∷ log)) n) (upto (listed t log) n) e (ap (λ l. upto l n) (stays t v log e)) x.0, subst (λ y. n ≤ length y) (sym (list_stays t v log e)) x.1)
+    go false e (inr x) = inr (
+      part_same t v log n (upto (listed t (v ∷ log)) n) (upto (listed t log) n) e (ap (λ l. upto l n) (stays t v log e)) x.0,
+      subst (λ y. n ≤ length y) (sym (list_stays t v log e)) x.1,
+    )
 
 -- ---- complete
 
@@ -170,7 +183,8 @@ prepared_there t (v ∷ log) m g h = go (is_kept (reading_of t log) v) refl (pre
     by_test true k = refl
     by_test false k = k
 
-    grown : (HasPrepared (law.values (list_of t log)) m g → has_prepared (listed t log) m g ≡ true) → HasPrepared (law.values (placed (new_entry t v log) ∷ list_of t log)) m g → has_prepared (Took (new_entry t v log) ∷ listed t log) m g ≡ true
+    grown : (HasPrepared (law.values (list_of t log)) m g → has_prepared (listed t log) m g ≡ true)
+        → HasPrepared (law.values (placed (new_entry t v log) ∷ list_of t log)) m g → has_prepared (Took (new_entry t v log) ∷ listed t log) m g ≡ true
     grown k (x, inl q, o, b) =
         let e : Entry = new_entry t v log in
         let origin : inc_eq e.value.id.origin m ≡ true = ap (λ y. inc_eq y m) (ap (λ (y : law.Value). y.origin) q ∙ o) ∙ inc_same m in
@@ -178,7 +192,8 @@ prepared_there t (v ∷ log) m g h = go (is_kept (reading_of t log) v) refl (pre
         ap (λ y. elim y [ true ↦ true | false ↦ has_prepared (listed t log) m g ]) (and_from (inc_eq e.value.id.origin m) (prepares e.holds g) origin says)
     grown k (x, inr n, o, b) = by_test (inc_eq (new_entry t v log).value.id.origin m && prepares (new_entry t v log).holds g) (k (x, n, o, b))
 
-    go : (b : Bool) → is_kept (reading_of t log) v ≡ b → (HasPrepared (law.values (list_of t log)) m g → has_prepared (listed t log) m g ≡ true) → has_prepared (listed t (v ∷ log)) m g ≡ true
+    go : (b : Bool) → is_kept (reading_of t log) v ≡ b → (HasPrepared (law.values (list_of t log)) m g → has_prepared (listed t log) m g ≡ true)
+        → has_prepared (listed t (v ∷ log)) m g ≡ true
     go true e k = ap (λ l. has_prepared l m g) (grows t v log e) ∙ grown k (subst (λ y. HasPrepared (law.values y) m g) (list_grows t v log e) h)
     go false e k = ap (λ l. has_prepared l m g) (stays t v log e) ∙ k (subst (λ y. HasPrepared (law.values y) m g) (list_stays t v log e) h)
 
@@ -189,22 +204,24 @@ seat_is t log m = ap (λ v. is_seated v m) (sym (views_agree t [] (listed t log)
 online_is : (t : Setup) (log : List Value) (m : Inc) → is_online (view t (listed t log)) m ≡ seen.active t (law.values (list_of t log)) m
 online_is t log m = ap (λ v. is_online v m) (sym (views_agree t [] (listed t log) (takes t [] log))) ∙ (stands t (law.values (list_of t log)) m (adds_new t [] log)).1
 
-in_online : (ss : List Seat) (m : Inc) → In m (seated (filter (λ s. is_online_state s.state) ss)) → list_any (λ (s : Seat). inc_eq s.joiner.inc m && is_online_state s.state) ss ≡ true
+-- those ONLINE have a seat that is
+abbrev ups : List Seat → List Inc
+ups ss = seated (filter (λ s. is_online_state s.state) ss)
+
+abbrev is_up_for : Inc → Seat → Bool
+is_up_for m s = inc_eq s.joiner.inc m && is_online_state s.state
+
+in_online : (ss : List Seat) (m : Inc) → In m (ups ss) → list_any (is_up_for m) ss ≡ true
 in_online [] m h = absurd h
 in_online (s ∷ ss) m h = go (is_online_state s.state) refl (in_online ss m)
   where
-    rest : Bool
-    rest = list_any (λ (s : Seat). inc_eq s.joiner.inc m && is_online_state s.state) ss
+    this : is_online_state s.state ≡ true → (In m (ups ss) → list_any (is_up_for m) ss ≡ true) → (s.joiner.inc ≡ m) ⊎ In m (ups ss) → (is_up_for m s || list_any (is_up_for m) ss) ≡ true
+    this e k (inl q) = or_left (is_up_for m s) (list_any (is_up_for m) ss) (and_from (inc_eq s.joiner.inc m) (is_online_state s.state) (ap (λ y. inc_eq y m) q ∙ inc_same m) e)
+    this e k (inr n) = or_right (is_up_for m s) (list_any (is_up_for m) ss) (k n)
 
-    this : is_online_state s.state ≡ true → (In m (seated (filter (λ s. is_online_state s.state) ss)) → rest ≡ true) → (s.joiner.inc ≡ m) ⊎ In m (seated (filter (λ s. is_online_state s.state) ss)) → ((inc_eq s.joiner.inc m && is_online_state s.state) || rest) ≡ true
-    this e k (inl q) = or_left (inc_eq s.joiner.inc m && is_online_state s.state) rest (and_from (inc_eq s.joiner.inc m) (is_online_state s.state) (ap (λ y. inc_eq y m) q ∙ inc_same m) e)
-    this e k (inr n) = or_right (inc_eq s.joiner.inc m && is_online_state s.state) rest (k n)
-
-    go : (b : Bool) → is_online_state s.state ≡ b → (In m (seated (filter (λ s. is_online_state s.state) ss)) → rest ≡ true) → ((inc_eq s.joiner.inc m && is_online_state s.state) || rest) ≡ true
+    go : (b : Bool) → is_online_state s.state ≡ b → (In m (ups ss) → list_any (is_up_for m) ss ≡ true) → (is_up_for m s || list_any (is_up_for m) ss) ≡ true
     go true e k = this e k (rw e at h)
-    go false e k =
-        let n : In m (seated (filter (λ s. is_online_state s.state) ss)) = rw e at h in
-        or_right (inc_eq s.joiner.inc m && is_online_state s.state) rest (k n)
+    go false e k = let n : In m (ups ss) = rw e at h in or_right (is_up_for m s) (list_any (is_up_for m) ss) (k n)
 
 all_of : (test : Inc → Bool) (xs : List Inc) → ((x : Inc) → In x xs → test x ≡ true) → list_all test xs ≡ true
 all_of test [] f = refl
@@ -218,16 +235,26 @@ required_is t log c m h = by (up_to t log c.place)
     by (inl e) = absurd (subst (λ l. In m (online_incs (view t l))) e h)
     by (inr k) =
         let part = k.0 in
-        let up : is_online (view t (listed t part.before)) m ≡ true = in_online (view t (listed t part.before)).seats m (subst (λ l. In m (online_incs (view t l))) part.is_it h) in
+        let up : is_online (view t (listed t part.before)) m ≡ true =
+        in_online (view t (listed t part.before)).seats m (subst (λ l. In m (online_incs (view t l))) part.is_it h) in
         let long : length (law.values (list_of t part.before)) ≡ c.place = values_length (list_of t part.before) ∙ part.long k.1 in
-        let front : law.values (list_of t part.before) ≡ lawful.upto c.place (law.values (list_of t log)) = past_is_upto (law.values (list_of t part.before)) (law.values (list_of t log)) (values_past (list_of t part.before) (list_of t log) part.past) ∙ ap (λ n. lawful.upto n (law.values (list_of t log))) long in
+        let front : law.values (list_of t part.before) ≡ lawful.upto c.place (law.values (list_of t log)) =
+        past_is_upto (law.values (list_of t part.before)) (law.values (list_of t log)) (values_past (list_of t part.before) (list_of t log) part.past)
+        ∙ ap (λ n. lawful.upto n (law.values (list_of t log))) long in
         ap (λ p. seen.active t p m) (sym front) ∙ sym (online_is t part.before m) ∙ up
 
 -- complete by the values is complete by the list
 pub complete_there : (t : Setup) (log : List Value) (c : Cert) → Complete t (law.values (list_of t log)) (law_cert c) → complete t (listed t log) c ≡ true
-complete_there t log c h = all_of (λ x. inc_eq x c.id.origin || (has_prepared (listed t log) x c.gtid || not (is_seated (view t (listed t log)) x))) (required t (listed t log) c) (λ m n. by m (h m (required_is t log c m n)))
+complete_there t log c h = all_of (λ x. inc_eq x c.id.origin || (prepared x || absent x)) (required t (listed t log) c) (λ m n. by m (h m (required_is t log c m n)))
   where
-    by : (m : Inc) → (m ≡ c.id.origin) ⊎ (HasPrepared (law.values (list_of t log)) m c.gtid ⊎ (seen.standing t (law.values (list_of t log)) m ≡ seen.Gone)) → (inc_eq m c.id.origin || (has_prepared (listed t log) m c.gtid || not (is_seated (view t (listed t log)) m))) ≡ true
-    by m (inl e) = or_left (inc_eq m c.id.origin) (has_prepared (listed t log) m c.gtid || not (is_seated (view t (listed t log)) m)) (ap (λ y. inc_eq m y) (sym e) ∙ inc_same m)
-    by m (inr (inl p)) = or_right (inc_eq m c.id.origin) (has_prepared (listed t log) m c.gtid || not (is_seated (view t (listed t log)) m)) (or_left (has_prepared (listed t log) m c.gtid) (not (is_seated (view t (listed t log)) m)) (prepared_there t log m c.gtid p))
-    by m (inr (inr g)) = or_right (inc_eq m c.id.origin) (has_prepared (listed t log) m c.gtid || not (is_seated (view t (listed t log)) m)) (or_right (has_prepared (listed t log) m c.gtid) (not (is_seated (view t (listed t log)) m)) (ap not (seat_is t log m ∙ ap seen.is_in g)))
+    prepared : Inc → Bool
+    prepared m = has_prepared (listed t log) m c.gtid
+
+    absent : Inc → Bool
+    absent m = not (is_seated (view t (listed t log)) m)
+
+    by : (m : Inc) → (m ≡ c.id.origin) ⊎ (HasPrepared (law.values (list_of t log)) m c.gtid ⊎ (seen.standing t (law.values (list_of t log)) m ≡ seen.Gone))
+        → (inc_eq m c.id.origin || (prepared m || absent m)) ≡ true
+    by m (inl e) = or_left (inc_eq m c.id.origin) (prepared m || absent m) (ap (λ y. inc_eq m y) (sym e) ∙ inc_same m)
+    by m (inr (inl p)) = or_right (inc_eq m c.id.origin) (prepared m || absent m) (or_left (prepared m) (absent m) (prepared_there t log m c.gtid p))
+    by m (inr (inr g)) = or_right (inc_eq m c.id.origin) (prepared m || absent m) (or_right (prepared m) (absent m) (ap not (seat_is t log m ∙ ap seen.is_in g)))

@@ -9,6 +9,7 @@ use Rattle.slot_values.specs.declared.value.What.TheVariants.{Add}
 use Rattle.slot_values.specs.declared.kept.Kept.TheVariants.{At as KeptAt, Skipped as IsSkipped}
 use Rattle.slot_values.specs.Log.{became}
 use Rattle.txn_forms.specs.declared.body.Body.TheVariants.{Txn as Writes}
+use Rattle.txn_forms.specs.declared.body.Txn.{Txn}
 use Rattle.paxos_forms.specs.declared.welcome.Welcome.{Welcome}
 use Rattle.node_rules.proofs.Incs.{inc_same}
 use Rattle.group_rules.specs.declared.marks.Effect.TheVariants.{Plain}
@@ -58,7 +59,9 @@ record Joined (k : List law.Value) (i : Inc) (n : ℕ) : Type 0 where
 
 -- after it the incarnation isn't absent
 came : (t : Setup) (v : law.Value) (p : List law.Value) (j : Joiner) → v.body ≡ law.Joins j → 0 < rank (seen.standing t (v ∷ p) j.inc)
-came t v p j e = subst (λ b. 0 < rank (seen.stands_after j.inc v.origin b (seen.standing t p j.inc))) (sym e) (subst (λ b. 0 < rank (cond b (seen.on_join (seen.standing t p j.inc)) (seen.standing t p j.inc))) (sym (inc_same j.inc)) (joins (seen.standing t p j.inc)))
+came t v p j e =
+    subst (λ b. 0 < rank (seen.stands_after j.inc v.origin b (seen.standing t p j.inc))) (sym e)
+    (subst (λ b. 0 < rank (cond b (seen.on_join (seen.standing t p j.inc)) (seen.standing t p j.inc))) (sym (inc_same j.inc)) (joins (seen.standing t p j.inc)))
   where
     joins : (s : seen.Standing) → 0 < rank (seen.on_join s)
     joins seen.Absent = omega arith
@@ -76,8 +79,10 @@ absent t v p j a e = is_new v.body e a.0
 not_later : (t : Setup) (k : List law.Value) (i : Inc) (n m : ℕ) → AddsNew t k → (a : Joined k i n) → (b : Joined k i m) → listing.IsPast (a.value ∷ a.front) b.front → ⊥
 not_later t k i n m new a b h =
     let up = rank_up t (a.value ∷ a.front) b.front i h in
-    let in_a : 0 < rank (seen.standing t (a.value ∷ a.front) i) = subst (λ y. 0 < rank (seen.standing t (a.value ∷ a.front) y)) a.inc (came t a.value a.front a.joiner a.body) in
-    let in_b : seen.standing t b.front i ≡ seen.Absent = ap (seen.standing t b.front) (sym b.inc) ∙ absent t b.value b.front b.joiner (adds_past t (b.value ∷ b.front) k b.there new) b.body in
+    let in_a : 0 < rank (seen.standing t (a.value ∷ a.front) i) =
+    subst (λ y. 0 < rank (seen.standing t (a.value ∷ a.front) y)) a.inc (came t a.value a.front a.joiner a.body) in
+    let in_b : seen.standing t b.front i ≡ seen.Absent =
+    ap (seen.standing t b.front) (sym b.inc) ∙ absent t b.value b.front b.joiner (adds_past t (b.value ∷ b.front) k b.there new) b.body in
     let none : rank (seen.standing t b.front i) ≡ 0 = ap rank in_b in
     omega (arith, up, in_a, none)
 
@@ -120,7 +125,8 @@ module _ (t : Setup) (w : Past) (one : OneLogOf t w) (done : AllDid (IsDone t) w
   joined_at i e a = record {
     value = (placed x).value;
     front = law.values (upto n (list_of t one.log));
-    there = subst (λ y. listing.IsPast (law.values y) (law.values (list_of t one.log))) stands.1 (values_past (upto (suc n) (list_of t one.log)) (list_of t one.log) (upto_is_past (suc n) (list_of t one.log)));
+    there = subst (λ y. listing.IsPast (law.values y) (law.values (list_of t one.log))) stands.1
+        (values_past (upto (suc n) (list_of t one.log)) (list_of t one.log) (upto_is_past (suc n) (list_of t one.log)));
     joiner = a.joiner;
     body = ap (λ (y : What). does_entry y x.effect x.holds) (ap (λ (y : Value). y.what) g.listed.2.value ∙ a.adds) ∙ ap (λ f. does_entry (Add a.joiner) f x.holds) effect;
     inc = a.inc;
@@ -143,7 +149,10 @@ module _ (t : Setup) (w : Past) (one : OneLogOf t w) (done : AllDid (IsDone t) w
       stands = entry_stands t one.log n x (ap (entry_at (listed t one.log)) (sym place) ∙ g.listed.1)
 
       effect : x.effect ≡ Plain
-      effect = g.listed.2.effect (λ y h. let z : None ≡ Some (Writes y) = sym (add_holds t (life_in a.before a.who) e e.slot g.place g.effect a.joiner g.is_it a.adds) ∙ h in absurd (cc z)) ∙ a.effect
+      effect = g.listed.2.effect (λ y h. no_txn y h) ∙ a.effect
+        where
+          no_txn : (y : Txn) → e.holds ≡ Some (Writes y) → ⊥
+          no_txn y h = let z : None ≡ Some (Writes y) = sym (add_holds t (life_in a.before a.who) e e.slot g.place g.effect a.joiner g.is_it a.adds) ∙ h in cc z
 
   -- two Adds of one incarnation have one place
   one_add : (i : Inc) (e f : Entry) → TookAdd i e → TookAdd i f → e.place ≡ f.place
@@ -195,12 +204,14 @@ module _ (t : Setup) (w : Past) (one : OneLogOf t w) (done : AllDid (IsDone t) w
     took_slot = by (one.no_other u.slot joined.value joined.there)
       where
         skipped : (i : Inc) (p : Past) → DidAt w i (Skips u.slot joined.value) p → ⊥
-        skipped i p k = let z : KeptAt joined.place true ≡ IsSkipped = joined.kept ∙ (done_at (Follows t one.log) w p i (Skips u.slot joined.value) one.follows k).skipped in cc z
+        skipped i p k =
+            let z : KeptAt joined.place true ≡ IsSkipped =
+            joined.kept ∙ (done_at (Follows t one.log) w p i (Skips u.slot joined.value) one.follows k).skipped in cc z
 
         took : (i : Inc) (p : Past) (e : Entry) → e.slot ≡ u.slot → DidAt w i (Took e) p → TookSlot
         took i p e s k = record {
           entry = e;
-          add = record { who = i; before = p; took = k; joiner = joined.joiner; adds = adds; inc = joined.inc; effect = add_plain t (life_in p i) e e.slot g.place joined.joiner (g.is_it ∙ ap (λ b. entry_of t (life_in p i) e.slot g.place b e.value) effect) adds };
+          add = record { who = i; before = p; took = k; joiner = joined.joiner; adds = adds; inc = joined.inc; effect = plain };
           slot = s;
         }
           where
@@ -216,6 +227,9 @@ module _ (t : Setup) (w : Past) (one : OneLogOf t w) (done : AllDid (IsDone t) w
             effect : g.effect ≡ true
             effect = same_kept g.place joined.place g.effect true (g.kept ∙ (λ n. became (reading_of t (before_slot one.log (s n))) (same n)) ∙ sym joined.kept)
 
+            plain : e.effect ≡ Plain
+            plain = add_plain t (life_in p i) e e.slot g.place joined.joiner (g.is_it ∙ ap (λ b. entry_of t (life_in p i) e.slot g.place b e.value) effect) adds
+
         by : (i : Inc) × (p : Past) × (((e : Entry) × (e.slot ≡ u.slot) × DidAt w i (Took e) p) ⊎ DidAt w i (Skips u.slot joined.value) p) → TookSlot
         by (i, p, inl k) = took i p k.0 k.1 k.2
         by (i, p, inr k) = absurd (skipped i p k)
@@ -226,8 +240,11 @@ module _ (t : Setup) (w : Past) (one : OneLogOf t w) (done : AllDid (IsDone t) w
       who = greeted.who;
       add = greeted.add;
       before = greeted.before;
-      earlier = past_of came_at (Does greeted.who (Took greeted.add) ∷ greeted.before) q (past_of (Does j (Came (Hears entering.message)) ∷ came_at) came_at q heard.1 (inr (past_self came_at))) greeted.took;
-      place = one_add j greeted.add took_slot.entry greeted_add took_slot.add ∙ place_of took_slot.add.who took_slot.entry took_slot.add.before took_slot.add.took ∙ ap (λ n. (reading_of t (before_slot one.log (suc n))).place) took_slot.slot;
+      earlier = earlier;
+      place =
+          one_add j greeted.add took_slot.entry greeted_add took_slot.add
+          ∙ place_of took_slot.add.who took_slot.entry took_slot.add.before took_slot.add.took
+          ∙ ap (λ n. (reading_of t (before_slot one.log (suc n))).place) took_slot.slot;
     }
       where
         entering : IsEntered j (life_in q j) u
@@ -248,11 +265,16 @@ module _ (t : Setup) (w : Past) (one : OneLogOf t w) (done : AllDid (IsDone t) w
         greeted : WasGreeted t came_at entering.message u
         greeted = subst (λ y. WasSentAs t came_at entering.message y) entering.wire came_done.2
 
+        earlier : IsPast (Does greeted.who (Took greeted.add) ∷ greeted.before) q
+        earlier =
+            past_of came_at (Does greeted.who (Took greeted.add) ∷ greeted.before) q
+            (past_of (Does j (Came (Hears entering.message)) ∷ came_at) came_at q heard.1 (inr (past_self came_at))) greeted.took
+
         greeted_add : TookAdd j greeted.add
         greeted_add = record {
           who = greeted.who;
           before = greeted.before;
-          took = past_of q (Does greeted.who (Took greeted.add) ∷ greeted.before) w past_q (past_of came_at (Does greeted.who (Took greeted.add) ∷ greeted.before) q (past_of (Does j (Came (Hears entering.message)) ∷ came_at) came_at q heard.1 (inr (past_self came_at))) greeted.took);
+          took = past_of q (Does greeted.who (Took greeted.add) ∷ greeted.before) w past_q earlier;
           joiner = greeted.joiner;
           adds = greeted.adds;
           inc = sym greeted.to ∙ came_done.1;
@@ -270,7 +292,8 @@ module _ (t : Setup) (w : Past) (one : OneLogOf t w) (done : AllDid (IsDone t) w
     pub earlier : IsPast (Does who (Took add) ∷ before) c
     pub place : n ≡ add.place
 
-  pub welcomed_at : (c : Past) → IsPast c w → (j : Inc) (u : Welcome) → entered (life_in c j) ≡ Some u → is_founder t j ≡ false → has_give (life_in c j) ≡ false → TakenThere c (taken (life_in c j))
+  pub welcomed_at : (c : Past) → IsPast c w → (j : Inc) (u : Welcome) → entered (life_in c j) ≡ Some u → is_founder t j ≡ false → has_give (life_in c j) ≡ false
+      → TakenThere c (taken (life_in c j))
   welcomed_at c h j u e f g = record {
     who = was.who;
     add = was.add;
@@ -280,7 +303,10 @@ module _ (t : Setup) (w : Past) (one : OneLogOf t w) (done : AllDid (IsDone t) w
   }
     where
       was : PlaceTaken c u.slot
-      was = welcomes_at (λ i s. PlaceTaken c s) t c (λ q i v k. place_later q c v.slot (past_of (Does i (Enters v) ∷ q) q c k (inr (past_self q))) (welcome_place q i v (past_of c (Does i (Enters v) ∷ q) w h k))) j u e
+      was = welcomes_at (λ i s. PlaceTaken c s) t c taken_by j u e
+        where
+          taken_by : (q : Past) (i : Inc) (v : Welcome) → IsPast (Does i (Enters v) ∷ q) c → PlaceTaken c v.slot
+          taken_by q i v k = place_later q c v.slot (past_of (Does i (Enters v) ∷ q) q c k (inr (past_self q))) (welcome_place q i v (past_of c (Does i (Enters v) ∷ q) w h k))
 
       asks : Asks (life_in c j) u
       asks = ((shapes t c (did_past (IsDone t) w c done h) j).joiner f).ungiven u e g

@@ -90,8 +90,18 @@ past_length p (d ∷ l) (inr h) = let n = past_length p l h in omega (arith, n)
 same_did : (c d : Did) (p q l : Life) → p ≡ q → left.IsPast (c ∷ p) l → left.IsPast (d ∷ q) l → c ≡ d
 same_did c d p q [] e a b = absurd (cc a)
 same_did c d p q (x ∷ l) e (inl a) (inl b) = let y : c ≡ x = cc a in let z : d ≡ x = cc b in y ∙ sym z
-same_did c d p q (x ∷ l) e (inl a) (inr b) = let y : p ≡ l = cc a in let n : length p ≡ length q = ap length e in let m : length p ≡ length l = ap length y in let k = past_length (d ∷ q) l b in absurd (omega (arith, n, m, k))
-same_did c d p q (x ∷ l) e (inr a) (inl b) = let y : q ≡ l = cc b in let n : length p ≡ length q = ap length e in let m : length q ≡ length l = ap length y in let k = past_length (c ∷ p) l a in absurd (omega (arith, n, m, k))
+same_did c d p q (x ∷ l) e (inl a) (inr b) =
+    let y : p ≡ l = cc a in
+    let n : length p ≡ length q = ap length e in
+    let m : length p ≡ length l = ap length y in
+    let k = past_length (d ∷ q) l b in
+    absurd (omega (arith, n, m, k))
+same_did c d p q (x ∷ l) e (inr a) (inl b) =
+    let y : q ≡ l = cc b in
+    let n : length p ≡ length q = ap length e in
+    let m : length q ≡ length l = ap length y in
+    let k = past_length (c ∷ p) l a in
+    absurd (omega (arith, n, m, k))
 same_did c d p q (x ∷ l) e (inr a) (inr b) = same_did c d p q l e a b
 
 abbrev level_in : Did → Level → Level
@@ -118,14 +128,18 @@ module _ (t : Setup) (w : Past) (one : OneLogOf t w) (done : AllDid (IsDone t) w
   values = law.values (list_of t one.log)
 
   pub called_past : (i : Inc) (b c : Past) (v : Level) (set : Gtids) (sync : Option ℕ) → BegunAt w i b c v set sync → IsPast c w
-  called_past i b c v set sync h = past_of (Does i (Called h.session v h.limit) ∷ c) c w (past_of (Does i (Begun h.session set sync) ∷ b) (Does i (Called h.session v h.limit) ∷ c) w h.answer (inr h.call)) (inr (past_self c))
+  called_past i b c v set sync h =
+      past_of (Does i (Called h.session v h.limit) ∷ c) c w
+      (past_of (Does i (Begun h.session set sync) ∷ b) (Does i (Called h.session v h.limit) ∷ c) w h.answer (inr h.call)) (inr (past_self c))
 
   pub begun_past : (i : Inc) (b c : Past) (v : Level) (set : Gtids) (sync : Option ℕ) → BegunAt w i b c v set sync → IsPast b w
   begun_past i b c v set sync h = past_of (Does i (Begun h.session set sync) ∷ b) b w h.answer (inr (past_self b))
 
   -- its call has its level
   pub called_level : (i : Inc) (b c : Past) (v : Level) (set : Gtids) (sync : Option ℕ) → (h : BegunAt w i b c v set sync) → (h.last.0).level ≡ v
-  called_level i b c v set sync h = ap (λ d. level_in d v) (same_did (Called h.session call.level named.0) (Called h.session v h.limit) call.past (life_in c i) (life_in b i) h.last.2 named.1 there)
+  called_level i b c v set sync h =
+      ap (λ d. level_in d v)
+      (same_did (Called h.session call.level named.0) (Called h.session v h.limit) call.past (life_in c i) (life_in b i) h.last.2 named.1 there)
     where
       call : Call
       call = h.last.0
@@ -137,7 +151,8 @@ module _ (t : Setup) (w : Past) (one : OneLogOf t w) (done : AllDid (IsDone t) w
       there = subst (λ y. left.IsPast y (life_in b i)) (did_here c i (Called h.session v h.limit)) (history_past (Does i (Called h.session v h.limit) ∷ c) b i h.call)
 
   -- a begin that was answered is so in the run of the laws
-  pub was_begun : (i : Inc) (b c : Past) (v : Level) (set : Gtids) (sync : Option ℕ) → BegunAt w i b c v set sync → WasBegun (run_of base w) i (run_of base b) (run_of base c) v
+  pub was_begun : (i : Inc) (b c : Past) (v : Level) (set : Gtids) (sync : Option ℕ) → BegunAt w i b c v set sync
+      → WasBegun (run_of base w) i (run_of base b) (run_of base c) v
   was_begun i b c v set sync h = record {
     session = h.session;
     sync = sync_number v (life_in c i);
@@ -158,7 +173,8 @@ module _ (t : Setup) (w : Past) (one : OneLogOf t w) (done : AllDid (IsDone t) w
           ∙ ap (λ y. Some (record { level = v; sync = sync_number v (life_in c i); past = y })) (sym (lives_agree base c i))
 
   -- with the number of its Sync
-  pub sync_is : (i : Inc) (b c : Past) (v : Level) (set : Gtids) (sync : Option ℕ) → (h : BegunAt w i b c v set sync) → (was_begun i b c v set sync h).sync ≡ sync_number v (life_in c i)
+  pub sync_is : (i : Inc) (b c : Past) (v : Level) (set : Gtids) (sync : Option ℕ) → (h : BegunAt w i b c v set sync)
+      → (was_begun i b c v set sync h).sync ≡ sync_number v (life_in c i)
   unfolding was_begun
   sync_is i b c v set sync h = refl
 
@@ -166,7 +182,8 @@ module _ (t : Setup) (w : Past) (one : OneLogOf t w) (done : AllDid (IsDone t) w
   pub is_begun : (i : Inc) (b c : Past) (v : Level) (set : Gtids) (sync : Option ℕ) → (h : BegunAt w i b c v set sync) → IsBegun t i (life_in b i) h.session set sync
   is_begun i b c v set sync h = (done_at (IsDone t) w b i (Begun h.session set sync) done h.answer).1.1
 
-  pub has_read : (i : Inc) (b c : Past) (v : Level) (set : Gtids) (sync : Option ℕ) → BegunAt w i b c v set sync → (g : Gtid) → lives.executed (run.life (run_of base b) i) g ≡ true → has set g ≡ true
+  pub has_read : (i : Inc) (b c : Past) (v : Level) (set : Gtids) (sync : Option ℕ) → BegunAt w i b c v set sync → (g : Gtid)
+      → lives.executed (run.life (run_of base b) i) g ≡ true → has set g ≡ true
   has_read i b c v set sync h g e =
       ap (λ y. has y g) (is_begun i b c v set sync h).set
       ∙ sym (executed_agrees (base i) (life_in b i) g (r.moments b (begun_past i b c v set sync h) i).sets)
@@ -191,12 +208,15 @@ module _ (t : Setup) (w : Past) (one : OneLogOf t w) (done : AllDid (IsDone t) w
 
   -- one that is ONLINE takes part
   ready_up : (p : Past) → IsPast p w → (i : Inc) → 1 < length (life_in p i) → is_up (state (life_in p i)) ≡ true → IsReady t i (life_in p i)
-  ready_up p h i b u = ready_by t i (base i) (life_in p i) (shape_of t i (base i) (life_in p i) (r.moments p h i).always b) (or_left (is_up (state (life_in p i))) (is_recovering (state (life_in p i)) && has_give (life_in p i)) u)
+  ready_up p h i b u =
+      ready_by t i (base i) (life_in p i) (shape_of t i (base i) (life_in p i) (r.moments p h i).always b)
+      (or_left (is_up (state (life_in p i))) (is_recovering (state (life_in p i)) && has_give (life_in p i)) u)
 
   pub sound_up : (p : Past) → IsPast p w → (i : Inc) → 1 < length (life_in p i) → is_up (state (life_in p i)) ≡ true → Sound t i (base i) (life_in p i)
   sound_up p h i b u = sound_at t i (base i) (life_in p i) (r.moments p h i).always (ready_up p h i b u) (omega (arith, b))
 
-  pub online_at : (p : Past) → IsPast p w → (i : Inc) → 1 < length (life_in p i) → is_settled i (life_in p i) ≡ true → is_up (state (life_in p i)) ≡ true → lives.online t i (run.life (run_of base p) i) ≡ true
+  pub online_at : (p : Past) → IsPast p w → (i : Inc) → 1 < length (life_in p i) → is_settled i (life_in p i) ≡ true → is_up (state (life_in p i)) ≡ true
+      → lives.online t i (run.life (run_of base p) i) ≡ true
   online_at p h i b z u =
       ap (lives.online t i) (lives_agree base p i)
       ∙ and_from (not (list_any lives.is_fall (life_of (base i) (life_in p i)))) (seen.active t (lives.taken (life_of (base i) (life_in p i))) i)
@@ -223,7 +243,8 @@ module _ (t : Setup) (w : Past) (one : OneLogOf t w) (done : AllDid (IsDone t) w
   view_at p i s = ap (λ l. primary.view t (lives.taken l)) (lives_agree base p i) ∙ views_agree t (base i) (life_in p i) s.taking
 
   -- a call comes in a settled moment
-  pub at_call : (i : Inc) (b c : Past) (v : Level) (set : Gtids) (sync : Option ℕ) → BegunAt w i b c v set sync → (1 < length (life_in c i)) × (is_settled i (life_in c i) ≡ true)
+  pub at_call : (i : Inc) (b c : Past) (v : Level) (set : Gtids) (sync : Option ℕ) → BegunAt w i b c v set sync
+      → (1 < length (life_in c i)) × (is_settled i (life_in c i) ≡ true)
   at_call i b c v set sync h =
       let d = done_at (IsDone t) w c i (Called h.session v h.limit) done (past_of b (Does i (Called h.session v h.limit) ∷ c) w (begun_past i b c v set sync h) h.call) in
       (d.0.begun, d.0.settled)

@@ -50,7 +50,8 @@ run_past t k a (x ∷ w) (inl e) r = subst (IsRun t k) (sym e) r
 run_past t k a (x ∷ w) (inr h) r = run_past t k a w h (run_before t k x w r)
 
 -- of what an incarnation has executed: its server has had no more since its last mark
-none_refused : (t : Setup) (k : List law.Value) (w : run.World) → IsRun t k w → (m : Inc) → rows.NoneRefused (law.certified t (decided.scan t k)) (lives.executed (run.life w m))
+none_refused : (t : Setup) (k : List law.Value) (w : run.World) → IsRun t k w → (m : Inc)
+    → rows.NoneRefused (law.certified t (decided.scan t k)) (lives.executed (run.life w m))
 none_refused t k [] h m = refuses_none (law.certified t (decided.scan t k))
 none_refused t k (run.Writes s g i x ∷ w) h m = none_refused t k w (run_before t k (run.Writes s g i x) w h) m
 none_refused t k (run.Does i d ∷ w) h m = go (inc_eq i m) refl (none_refused t k w (run_before t k (run.Does i d) w h) m)
@@ -61,9 +62,11 @@ none_refused t k (run.Does i d ∷ w) h m = go (inc_eq i m) refl (none_refused t
     runs : i ≡ m → run.runs t (run.Does i d ∷ w) m ≡ true
     runs e = subst (λ y. run.runs t (run.Does y d ∷ w) m ≡ true) (sym e) (ap (λ b. cond b (inc_eq m m) (run.runs t w m)) (eq-eqb m.server m.server refl) ∙ inc_same m)
 
-    go : (b : Bool) → inc_eq i m ≡ b → rows.NoneRefused (law.certified t (decided.scan t k)) (lives.executed (run.life w m)) → rows.NoneRefused (law.certified t (decided.scan t k)) (lives.executed (run.life (run.Does i d ∷ w) m))
+    go : (b : Bool) → inc_eq i m ≡ b → rows.NoneRefused (law.certified t (decided.scan t k)) (lives.executed (run.life w m))
+        → rows.NoneRefused (law.certified t (decided.scan t k)) (lives.executed (run.life (run.Does i d ∷ w) m))
     go true e rest = subst (rows.NoneRefused (law.certified t (decided.scan t k))) (λ j g. rule.running m g (runs (inc_is i m e)) j) (rule.fits m.server)
-    go false e rest = subst (λ l. rows.NoneRefused (law.certified t (decided.scan t k)) (lives.executed l)) (sym (ap (λ b. cond b (d ∷ run.life w m) (run.life w m)) e)) rest
+    go false e rest = subst (λ l. rows.NoneRefused (law.certified t (decided.scan t k)) (lives.executed l))
+        (sym (ap (λ b. cond b (d ∷ run.life w m) (run.life w m)) e)) rest
 
 -- ---- the tables of the laws are those of the rules
 
@@ -81,8 +84,10 @@ changed_same (c ∷ cs) was = ap (rows.applied cs) (put_same c was) ∙ changed_
 table_same : (cs : List Cert) (e : Gtids) → rows.rows_of (map law_cert cs) (has e) ≡ table_of cs e
 table_same [] e = refl
 table_same (c ∷ cs) e =
-    let q : rows.applied c.txn.changes (rows.rows_of (map law_cert cs) (has e)) ≡ with_changes (table_of cs e) c.txn.changes = ap (rows.applied c.txn.changes) (table_same cs e) ∙ changed_same c.txn.changes (table_of cs e) in
-    (λ j i. cond (has e c.gtid) (q j i) (table_same cs e j i)) ∙ (λ j i. either_row (has e c.gtid) (with_changes (table_of cs e) c.txn.changes i) (table_of cs e i) j)
+    let q : rows.applied c.txn.changes (rows.rows_of (map law_cert cs) (has e)) ≡ with_changes (table_of cs e) c.txn.changes =
+    ap (rows.applied c.txn.changes) (table_same cs e) ∙ changed_same c.txn.changes (table_of cs e) in
+    (λ j i. cond (has e c.gtid) (q j i) (table_same cs e j i))
+    ∙ (λ j i. either_row (has e c.gtid) (with_changes (table_of cs e) c.txn.changes i) (table_of cs e i) j)
 
 fits_same : (cs : List Change) (was : Table) → rows.Fits cs was → AllFit was cs
 fits_same [] was h = tt
@@ -108,5 +113,6 @@ module _ (t : Setup) (w : Past) (one : OneLogOf t w) (done : AllDid (IsDone t) w
     fits =
         refused_same (certs (listed t one.log)) (executed (life_in p i))
         (subst (λ y. y) (λ j. rows.NoneRefused (certs_are t w one done r j) (λ g. executed_is p h i g j))
-        (none_refused t (law.values (list_of t one.log)) (run_of given p) (run_past t (law.values (list_of t one.log)) (run_of given p) (run_of given w) (point given p w h) r.run) i));
+        (none_refused t (law.values (list_of t one.log)) (run_of given p)
+        (run_past t (law.values (list_of t one.log)) (run_of given p) (run_of given w) (point given p w h) r.run) i));
   }

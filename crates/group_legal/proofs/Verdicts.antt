@@ -46,7 +46,8 @@ entry_is : (t : Setup) (log : List Value) (n : ℕ) (x : Entry) → entry_at (li
 entry_is t [] n x h = absurd (cc h)
 entry_is t (v ∷ log) n x h = go (is_kept (reading_of t log) v) (takes t [] (v ∷ log)) h (entry_is t log n x)
   where
-    found : (e : Entry) → IsEffect t (view t (listed t log)) e.value.what e.holds e.effect → (b : Bool) → (e.place == n) ≡ b → ◌≡◌ {A = Option Entry} (elim b [ true ↦ Some e | false ↦ entry_at (listed t log) n ]) (Some x)
+    found : (e : Entry) → IsEffect t (view t (listed t log)) e.value.what e.holds e.effect → (b : Bool) → (e.place == n) ≡ b
+        → ◌≡◌ {A = Option Entry} (elim b [ true ↦ Some e | false ↦ entry_at (listed t log) n ]) (Some x)
         → (entry_at (listed t log) n ≡ Some x → IsEntryAt t n x) → IsEntryAt t n x
     found e f true y z k = let same : e ≡ x = cc z in subst (IsEntryAt t n) same (eqb-true e.place n y, (view t (listed t log), f))
     found e f false y z k = k z
@@ -105,7 +106,9 @@ module _ (t : Setup) (w : Past) (one : OneLogOf t w) (done : AllDid (IsDone t) w
     sound = sound_took t i (given i) e (life_in p i) moment.lived moment.always
 
     ready : IsReady t i (life_in p i)
-    ready = let d = done_at (IsDone t) w p i (Took e) done h in ready_by t i (given i) (life_in p i) (shape_of t i (given i) (life_in p i) moment.always.1 d.0.begun) d.1.1
+    ready =
+        let d = done_at (IsDone t) w p i (Took e) done h in
+        ready_by t i (given i) (life_in p i) (shape_of t i (given i) (life_in p i) moment.always.1 d.0.begun) d.1.1
 
     -- it has the outcome of the list
     same_outcome : (x : Entry) → entry_at (listed t one.log) e.place ≡ Some x → placed e ≡ placed x
@@ -117,7 +120,8 @@ module _ (t : Setup) (w : Past) (one : OneLogOf t w) (done : AllDid (IsDone t) w
         stands = entry_stands t one.log (taken (life_in p i)) x (ap (entry_at (listed t one.log)) (sym sound.taking.0.0) ∙ q)
 
     -- and its effect, where it holds a transaction
-    same_effect : (tx : Txn) (x : Entry) → e.holds ≡ Some (Writes tx) → entry_at (listed t one.log) e.place ≡ Some x → x.holds ≡ e.holds → IsEntryAt t e.place x → x.effect ≡ e.effect
+    same_effect : (tx : Txn) (x : Entry) → e.holds ≡ Some (Writes tx) → entry_at (listed t one.log) e.place ≡ Some x
+        → x.holds ≡ e.holds → IsEntryAt t e.place x → x.effect ≡ e.effect
     same_effect tx x holds q same is =
         same_verdict t x.effect e.effect
         (is_verdict t is.1.0 x.value.what tx x.effect (subst (λ b. IsEffect t is.1.0 x.value.what b x.effect) (same ∙ holds) is.1.1))
