@@ -302,6 +302,30 @@ recovering_began : (l : Life) → is_recovering (state l) ≡ true → 0 < lengt
 recovering_began [] h = absurd (false≢true h)
 recovering_began (d ∷ l) h = omega arith
 
+-- the GTIDs of the list are the group's
+pub of_group : (t : Setup) (m : List law.Placed) (d : law.Cert) → Mem d (law.certified t m) → d.gtid.source ≡ t.limits.group
+of_group t [] d h = absurd h
+of_group t (e ∷ m) d h = go (cons_cases (law.cert_of t (suc (length m)) e) (law.certified t m) d h) (of_group t m d)
+  where
+    parts : (b : law.Body) (o : law.Outcome) → law.cert_parts t (suc (length m)) e.value.origin e.value.number b o ≡ Some d → d.gtid.source ≡ t.limits.group
+    parts (law.Write x) (law.Positive n) q =
+        let z : record { place = suc (length m); origin = e.value.origin; id = e.value.number; gtid = record { source = t.limits.group; number = n }; txn = x } ≡ d = cc in
+        ap (λ (u : law.Cert). u.gtid.source) (sym z)
+    parts (law.Write x) (law.Conflict y) q = absurd (cc q)
+    parts (law.Write x) law.NoTxn q = absurd (cc q)
+    parts (law.Executed x) o q = absurd (cc q)
+    parts (law.Online x) o q = absurd (cc q)
+    parts (law.Joins x) o q = absurd (cc q)
+    parts (law.Leaves x) o q = absurd (cc q)
+    parts (law.Prepared x) o q = absurd (cc q)
+    parts (law.Switches x) o q = absurd (cc q)
+    parts (law.Appoints x) o q = absurd (cc q)
+    parts law.Plain o q = absurd (cc q)
+
+    go : (law.cert_of t (suc (length m)) e ≡ Some d) ⊎ Mem d (law.certified t m) → (Mem d (law.certified t m) → d.gtid.source ≡ t.limits.group) → d.gtid.source ≡ t.limits.group
+    go (inl q) f = parts e.value.body e.outcome q
+    go (inr k) f = f k
+
 -- ---- one thing more
 
 module _ (t : Setup) (setup : IsSetup t) (w : Past) (x : OneLogOf t w) (done : AllDid (IsDone t) w) (servers : OfServers t w) (spelled : Spelled) (small : HasSmallNumbers w) (v : Past) (v_past : IsPast v w)
@@ -728,3 +752,120 @@ module _ (t : Setup) (setup : IsSetup t) (w : Past) (x : OneLogOf t w) (done : A
       stays = own_known.stays;
       stock = own_known.stock;
     }
+
+  -- ---- all that happened
+
+  did_known : (p : Past) (i : Inc) (d : Did) → IsPast (Does i d ∷ p) v → IsDone t p i d → AllDid (IsDone t) p → KnownBefore p → LifeKnows t list i (d ∷ life_in p i)
+  did_known p i Founds k h all b = subst (λ l. LifeKnows t list i (Founds ∷ l)) (sym h.1) (nothing_known t list i)
+  did_known p i (Starts y) k h all b = starts_known p i y h (b p (past_self p))
+  did_known p i (Took e) k h all b = took_known p i e k ((b p (past_self p)).lives i)
+  did_known p i (Committed g) k h all b = committed_known p i g k (past_of (Does i (Committed g) ∷ p) p v k (inr (past_self p))) ((b p (past_self p)).lives i)
+  did_known p i (Enters u) k h all b = enters_known p i u h all ((b p (past_self p)).lives i)
+  did_known p i (Restores g cs) k h all b = restores_known p i g cs k b
+  did_known p i (Came (Hears n)) k h all b = (b p (past_self p)).lives i
+  did_known p i (Came Ticks) k h all b = (b p (past_self p)).lives i
+  did_known p i (Came (Works z y)) k h all b = (b p (past_self p)).lives i
+  did_known p i (Came (Calls z y)) k h all b = (b p (past_self p)).lives i
+  did_known p i (Came (Operates z)) k h all b = (b p (past_self p)).lives i
+  did_known p i (Skips u v) k h all b = (b p (past_self p)).lives i
+  did_known p i (Gave n j) k h all b = (b p (past_self p)).lives i
+  did_known p i (Replied r) k h all b = (b p (past_self p)).lives i
+  did_known p i AskFails k h all b = (b p (past_self p)).lives i
+  did_known p i (Done q) k h all b = (b p (past_self p)).lives i
+  did_known p i (Begun u y z) k h all b = (b p (past_self p)).lives i
+  did_known p i (Changed u z) k h all b = (b p (past_self p)).lives i
+  did_known p i (Called u y z) k h all b = (b p (past_self p)).lives i
+  did_known p i (AsksCommit u y) k h all b = (b p (past_self p)).lives i
+  did_known p i (Ends u) k h all b = (b p (past_self p)).lives i
+  did_known p i (Made u y) k h all b = (b p (past_self p)).lives i
+  did_known p i (Answered u y) k h all b = (b p (past_self p)).lives i
+  did_known p i (Is y z) k h all b = (b p (past_self p)).lives i
+
+  does_known : (p : Past) (j : Inc) (d : Did) → IsPast (Does j d ∷ p) v → KnownBefore p → KnownAt t list (Does j d ∷ p)
+  does_known p j d k b = record { lives = λ i. go i (inc_eq j i) refl; stocks = (b p (past_self p)).stocks }
+    where
+      go : (i : Inc) (z : Bool) → inc_eq j i ≡ z → LifeKnows t list i (elim z [ true ↦ d ∷ life_in p i | false ↦ life_in p i ])
+      go i false e = (b p (past_self p)).lives i
+      go i true e =
+          let s : j ≡ i = inc_is j i e in
+          let m : IsPast (Does i d ∷ p) v = subst (λ y. IsPast (Does y d ∷ p) v) s k in
+          let n : IsPast (Does i d ∷ p) w = in_w (Does i d ∷ p) m in
+          did_known p i d m (done_at (IsDone t) w p i d done n) (did_past (IsDone t) w (Does i d ∷ p) done n).1 b
+
+  -- an incarnation that stops leaves what its server keeps
+  halts_known : (p : Past) (n : ℕ) → IsPast p v → KnownAt t list p → KnownAt t list (Halts n ∷ p)
+  halts_known p n k b = record { lives = b.lives; stocks = λ m. go m (n == m) }
+    where
+      certs_of : (i : Inc) → CertsOf t i list (life_in p i)
+      certs_of i = let h = b.lives i in record {
+        listed = λ c m. ((everywhere p k).lives i c m).1;
+        known = h.complete;
+        descends = h.descends;
+        apart = h.apart;
+        readable = λ c m. ((everywhere p k).lives i c m).0.1;
+      }
+
+      after : (m : ℕ) (o : Option Inc) → StockOf t list (stored_after (stored_in p m) p o)
+      after m None = b.stocks m
+      after m (Some i) = stopped t i list (life_in p i) (stored_in p m) (lived t p (did_past (IsDone t) w p done (in_w p k)) i) ((sets p (in_w p k)).lives i) (b.lives i).once (certs_of i) (b.lives i).stock (b.lives i).stays
+
+      go : (m : ℕ) (z : Bool) → StockOf t list (elim z [ true ↦ stored_after (stored_in p m) p (running_in p m) | false ↦ stored_in p m ])
+      go m true = after m (running_in p m)
+      go m false = b.stocks m
+
+  -- a row that is written offline has a GTID of the server's own
+  writes_known : (p : Past) (n : ℕ) (y : OfflineWrite) → IsPast (Writes n y ∷ p) v → KnownAt t list p → KnownAt t list (Writes n y ∷ p)
+  writes_known p n y k b = record { lives = b.lives; stocks = λ m. go m (n == m) }
+    where
+      in_past : IsPast (Writes n y ∷ p) w
+      in_past = in_w (Writes n y ∷ p) k
+
+      is_written : IsWritten t p n y
+      is_written = (written_past (IsWritten t) w (Writes n y ∷ p) in_past servers.written).0
+
+      number : IsNumber y.gtid.number
+      number = (written_past (λ p n x. IsNumber x.gtid.number) w (Writes n y ∷ p) in_past small.written).0
+
+      wrote : ℕ → Stored
+      wrote m = let z : Stored = stored_in p m in record { executed = with_gtid z.executed y.gtid; committed = z.committed; writes = z.writes ++ y ∷ [] }
+
+      more : (m : ℕ) (g : Gtid) → has (with_gtid (stored_in p m).executed y.gtid) g ≡ (gtid_eq y.gtid g || has (stored_in p m).executed g)
+      more m g = all_with_gtid (stored_in p m).executed y.gtid g ((sets p (past_of (Writes n y ∷ p) p w in_past (inr (past_self p)))).stored m) is_written.uuid number
+
+      -- no certified transaction has it
+      other : (d : law.Cert) → Mem d (law.certified t list) → gtid_eq y.gtid d.gtid ≡ true → ⊥
+      other d m e = false≢true (sym is_written.apart ∙ ap (λ u. bytes_eq u t.limits.group) (ap (λ (u : Gtid). u.source) (gtid_eq_same y.gtid d.gtid e) ∙ of_group t list d m) ∙ bytes_eq_itself t.limits.group)
+
+      one : (m : ℕ) → StockOf t list (wrote m)
+      one m = let h = b.stocks m in record {
+        listed = h.listed;
+        known = λ d z e. elim (or_cases (gtid_eq y.gtid d.gtid) (has (stored_in p m).executed d.gtid) (sym (more m d.gtid) ∙ e)) [ inl q ↦ absurd (other d z q) | inr q ↦ h.known d z q ];
+        done = λ c z. more m c.gtid ∙ or_right (gtid_eq y.gtid c.gtid) (has (stored_in p m).executed c.gtid) (h.done c z);
+        twice = h.twice;
+        readable = h.readable;
+      }
+
+      go : (m : ℕ) (z : Bool) → StockOf t list (elim z [ true ↦ wrote m | false ↦ stored_in p m ])
+      go m true = one m
+      go m false = b.stocks m
+
+  pub known_before : (p : Past) → IsPast p v → KnownBefore p
+  known_before [] k q e = subst (KnownAt t list) (sym e) (record { lives = λ i. nothing_known t list i; stocks = λ n. no_stock t list })
+  known_before (Does j d ∷ p) k q e = go e (known_before p (past_of (Does j d ∷ p) p v k (inr (past_self p))))
+    where
+      go : (q ≡ Does j d ∷ p) ⊎ IsPast q p → KnownBefore p → KnownAt t list q
+      go (inl z) h = subst (KnownAt t list) (sym z) (does_known p j d k h)
+      go (inr z) h = h q z
+  known_before (Halts n ∷ p) k q e = go e (known_before p below)
+    where
+      below : IsPast p v
+      below = past_of (Halts n ∷ p) p v k (inr (past_self p))
+
+      go : (q ≡ Halts n ∷ p) ⊎ IsPast q p → KnownBefore p → KnownAt t list q
+      go (inl z) h = subst (KnownAt t list) (sym z) (halts_known p n below (h p (past_self p)))
+      go (inr z) h = h q z
+  known_before (Writes n y ∷ p) k q e = go e (known_before p (past_of (Writes n y ∷ p) p v k (inr (past_self p))))
+    where
+      go : (q ≡ Writes n y ∷ p) ⊎ IsPast q p → KnownBefore p → KnownAt t list q
+      go (inl z) h = subst (KnownAt t list) (sym z) (writes_known p n y k (h p (past_self p)))
+      go (inr z) h = h q z
