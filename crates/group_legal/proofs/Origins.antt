@@ -94,7 +94,8 @@ first_made base q v (Some (Switches m)) = (run_of base q, refl)
 first_made base q v (Some (Appoints i)) = (run_of base q, refl)
 first_made base q v (Some (PartOf p)) = (run_of base q, refl)
 
-made_by : (base : Inc → List law.Placed) (q p : Past) (e : Entry) (b : Option Body) → IsPast (Does e.value.id.origin (Made e.value b) ∷ q) p → unplaced (does_entry e.value.what e.effect e.holds) ≡ does_body b
+made_by : (base : Inc → List law.Placed) (q p : Past) (e : Entry) (b : Option Body) → IsPast (Does e.value.id.origin (Made e.value b) ∷ q) p
+    → unplaced (does_entry e.value.what e.effect e.holds) ≡ does_body b
     → MadeBy (run_of base p) (placed e).value
 made_by base q p e b k h =
     let f = first_made base q e.value b in
@@ -151,7 +152,8 @@ module _ (t : Setup) where
         let before = f xs rest (omega (arith, number, q, n)) in
         λ j. open_after o (held (before j) (sym (ap (λ (y : Own). y.value.what) same) j)) (before j)
 
-    one_more : (b : Bool) (v : Value) (log : List Value) → is_kept (reading_of t log) v ≡ b → (is_noop v.what ≡ false → WasMade w v) → Agrees log → AgreesIf b v log
+    one_more : (b : Bool) (v : Value) (log : List Value) → is_kept (reading_of t log) v ≡ b → (is_noop v.what ≡ false → WasMade w v) → Agrees log
+        → AgreesIf b v log
     one_more false v log e m f xs k q = f xs k q
     one_more true v log e m f xs k q = go (inc_eq v.id.origin o) refl q
       where
@@ -180,7 +182,8 @@ module _ (t : Setup) (w : Past) (one : OneLogOf t w) (done : AllDid (IsDone t) w
       made : (s : ℕ) (v : Value) → value_at one.log s ≡ Some v → is_noop v.what ≡ false → WasMade w v
       made s v h n = by (one.no_other s v h)
         where
-          by : ((i : Inc) × (p : Past) × (((e : Entry) × (e.slot ≡ s) × IsPast (Does i (Took e) ∷ p) w) ⊎ IsPast (Does i (Skips s v) ∷ p) w)) → WasMade w v
+          by : ((i : Inc) × (p : Past) × (((e : Entry) × (e.slot ≡ s) × IsPast (Does i (Took e) ∷ p) w) ⊎ IsPast (Does i (Skips s v) ∷ p) w))
+              → WasMade w v
           by (i, p, inl (e, slot, k)) =
               let f = done_at (Follows t one.log) w p i (Took e) one.follows k in
               let both : Some e.value ≡ Some v = sym f.value ∙ ap (value_at one.log) slot ∙ h in
@@ -191,7 +194,8 @@ module _ (t : Setup) (w : Past) (one : OneLogOf t w) (done : AllDid (IsDone t) w
               made_past p w v (past_of (Does i (Skips s v) ∷ p) p w k (inr (past_self p))) (f.made n)
 
   -- what an entry holds, by the parts that its origin has open in the list before it
-  entry_holds : (p : Past) (i : Inc) (e : Entry) → TakenAs t one.log p i e → e.holds ≡ held (open_parts (listed t (before_slot one.log e.slot)) e.value.id.origin) e.value.what
+  entry_holds : (p : Past) (i : Inc) (e : Entry) → TakenAs t one.log p i e
+      → e.holds ≡ held (open_parts (listed t (before_slot one.log e.slot)) e.value.id.origin) e.value.what
   entry_holds p i e f =
       let x = f.listed.0 in
       let place : e.place ≡ f.place = ap (λ (y : Entry). y.place) f.is_it in
@@ -256,5 +260,6 @@ module _ (t : Setup) (w : Past) (one : OneLogOf t w) (done : AllDid (IsDone t) w
         ∙ does_as_made reads origin own_before e.value took.made.0 own_then.1 own_then.0.3 own_then.0.2 e.effect
 
   -- each value that is taken was made before, as what its place does
-  pub made_before : (base : Inc → List law.Placed) (p : Past) (i : Inc) (e : Entry) → IsPast (Does i (Took e) ∷ p) w → MadeBy (run_of base p) (placed e).value
+  pub made_before : (base : Inc → List law.Placed) (p : Past) (i : Inc) (e : Entry) → IsPast (Does i (Took e) ∷ p) w
+      → MadeBy (run_of base p) (placed e).value
   made_before base p i e k = made_by base (at p i e k).0 p e (took p i e k).made.0 (at p i e k).1 (does_the_same p i e k)
