@@ -84,10 +84,10 @@ adds_past t p (v ∷ k) (inl e) a = subst (AddsNew t) (sym e) a
 adds_past t p (v ∷ k) (inr h) a = adds_past t p k h a.1
 
 -- a certified transaction of a list is one of the list up to its place
-back : (t : Setup) (p k : List law.Placed) (d : law.Cert) → listing.IsPast p k → Mem d (law.certified t k) → d.place ≤ length p → Mem d (law.certified t p)
-back t p [] d h m n = absurd m
-back t p (e ∷ k) d (inl q) m n = subst (λ y. Mem d (law.certified t y)) (sym q) m
-back t p (e ∷ k) d (inr h) m n = go (cons_cases (law.cert_of t (suc (length k)) e) (law.certified t k) d m) (λ z. back t p k d h z n)
+pub cert_within : (t : Setup) (p k : List law.Placed) (d : law.Cert) → listing.IsPast p k → Mem d (law.certified t k) → d.place ≤ length p → Mem d (law.certified t p)
+cert_within t p [] d h m n = absurd m
+cert_within t p (e ∷ k) d (inl q) m n = subst (λ y. Mem d (law.certified t y)) (sym q) m
+cert_within t p (e ∷ k) d (inr h) m n = go (cons_cases (law.cert_of t (suc (length k)) e) (law.certified t k) d m) (λ z. cert_within t p k d h z n)
   where
     go : (law.cert_of t (suc (length k)) e ≡ Some d) ⊎ Mem d (law.certified t k) → (Mem d (law.certified t k) → Mem d (law.certified t p)) → Mem d (law.certified t p)
     go (inl q) f =
@@ -178,7 +178,7 @@ module _ (t : Setup) (i : Inc) (base : List law.Placed) where
       two seen.Gone e = absurd (false≢true e)
 
       certified_back_of : (d : law.Cert) → Mem d (certified_of t base l) → d.place ≤ length base → listing.IsPast base (lives.marked (life_of base l)) → Mem d (law.certified t base)
-      certified_back_of d m n p = back t base (lives.marked (life_of base l)) d p m n
+      certified_back_of d m n p = cert_within t base (lives.marked (life_of base l)) d p m n
 
       active : (k : ℕ) → listing.IsPast (law.values base) (lives.taken (life_of base l)) → k ≤ length base → rank (seen.standing t (law.values base) i) ≤ 1 → seen.active t (upto k (lives.taken (life_of base l))) i ≡ true → ⊥
       active k vals n b a =

@@ -158,7 +158,7 @@ module _ (t : Setup) (i : Inc) (base : List law.Placed) where
   in_front (x ∷ xs) ys c (inl q) = inl q
   in_front (x ∷ xs) ys c (inr h) = inr (in_front xs ys c h)
 
-  reverse_in : (c : Cert) (xs : List Cert) → In c xs → In c (reverse xs)
+  pub reverse_in : (c : Cert) (xs : List Cert) → In c xs → In c (reverse xs)
   reverse_in c [] h = h
   reverse_in c (x ∷ xs) h = subst (In c) (sym (reverse-append (x ∷ []) xs)) (elim h [ inl q ↦ in_behind (reverse xs) (x ∷ []) c (inl q) | inr k ↦ in_front (reverse xs) (x ∷ []) c (reverse_in c xs k) ])
 

@@ -78,13 +78,13 @@ ascends_filter test (x ∷ xs) h = go (test x) (ascends_filter test xs h.1)
     go true k = ((λ d m. h.0 d (in_filter test d xs m).0), k)
     go false k = k
 
+in_middle : (xs : List Cert) (c : Cert) (ys : List Cert) → In c (xs ++ c ∷ ys)
+in_middle [] c ys = inl refl
+in_middle (x ∷ xs) c ys = inr (in_middle xs c ys)
+
 pub ascends_before : (xs : List Cert) (c : Cert) (ys : List Cert) → Ascends (xs ++ c ∷ ys) → (d : Cert) → In d xs → d.place < c.place
 ascends_before [] c ys h d m = absurd m
 ascends_before (x ∷ xs) c ys h d (inl e) = subst (λ (y : Cert). y.place < c.place) e (h.0 c (in_middle xs c ys))
-  where
-    in_middle : (xs : List Cert) (c : Cert) (ys : List Cert) → In c (xs ++ c ∷ ys)
-    in_middle [] c ys = inl refl
-    in_middle (x ∷ xs) c ys = inr (in_middle xs c ys)
 ascends_before (x ∷ xs) c ys h d (inr m) = ascends_before xs c ys h.1 d m
 
 module _ (t : Setup) (i : Inc) (base : List law.Placed) where
@@ -110,6 +110,37 @@ module _ (t : Setup) (i : Inc) (base : List law.Placed) where
   of_first cs (x ∷ gs) h g (inl e) = (h.0.0, h.0.1, h.0.2 ∙ e)
   of_first cs (x ∷ gs) h g (inr m) = of_first cs gs h.1 g m
 
+  -- it wasn't committed
+  pub commit_new : (l : Life) (g : Gtid) → (x : IsCommitted t i l g) → Descends (certs l) → ((c : Cert) → In c (certs l) → IsUuid c.gtid.source × IsNumber c.gtid.number)
+      → ((y z : Cert) → In y (certs l) → In z (certs l) → y.gtid ≡ z.gtid → y.place ≡ z.place) → HasSets l → has (executed l) x.cert.gtid ≡ false
+  commit_new l g x descends numbers same sets = ap (λ y. has y (x.cert).gtid) x.executed ∙ not_among (executed x.begin) x.since (x.cert).gtid (canonical x.begin (sets_past x.begin l x.past sets)) earlier (in_pending x.begin x.cert pend).1
+    where
+      pend : In x.cert (pending x.begin)
+      pend = subst (In x.cert) (sym x.pending) (in_middle x.first x.cert x.rest)
+
+      here : In x.cert (certs l)
+      here = subst (In x.cert) (sym x.certs) (in_pending x.begin x.cert pend).0
+
+      ascends : Ascends (x.first ++ x.cert ∷ x.rest)
+      ascends =
+          subst Ascends x.pending
+          (ascends_filter (λ (y : Cert). not (has (executed x.begin) y.gtid)) (reverse (certs x.begin)) (subst (λ y. Ascends (reverse y)) x.certs (ascends_reverse (certs l) descends)))
+
+      -- those committed since the beginning of the point are earlier ones
+      earlier : (h : Gtid) → In h x.since → (IsUuid h.source × IsNumber h.number) × (gtid_eq h (x.cert).gtid ≡ false)
+      earlier h n =
+          let a = of_first x.first x.since x.earlier h n in
+          let b : In a.0 (pending x.begin) = subst (In a.0) (sym x.pending) (in_front t i base x.first (x.cert ∷ x.rest) a.0 a.1) in
+          let k : In a.0 (certs l) = subst (In a.0) (sym x.certs) (in_pending x.begin a.0 b).0 in
+          let less = ascends_before x.first x.cert x.rest ascends a.0 a.1 in
+          (subst (λ (y : Gtid). IsUuid y.source × IsNumber y.number) a.2 (numbers a.0 k), other a.0 k a.2 less)
+        where
+          other : (y : Cert) → In y (certs l) → y.gtid ≡ h → y.place < (x.cert).place → gtid_eq h (x.cert).gtid ≡ false
+          other y k q less = elim (cases_Bool (gtid_eq h (x.cert).gtid)) [
+            | inr z ↦ z
+            | inl z ↦ (let p : y.place ≡ (x.cert).place = same y x.cert k here (q ∙ gtid_eq_same h (x.cert).gtid z) in absurd (omega (arith, p, less)))
+          ]
+
   pub lawful_commit : (l : Life) (g : Gtid) → IsCommitted t i l g → Lived t i l → AlwaysSound t i base l → SameSets t i base l → HasSets l → Distinct t base l → LawfulCommit t i (life_of base l) g
   lawful_commit l g x k o s sets distinct = record {
     cert = d.0;
@@ -126,10 +157,6 @@ module _ (t : Setup) (i : Inc) (base : List law.Placed) where
 
       pend : In x.cert (pending x.begin)
       pend = subst (In x.cert) (sym x.pending) (in_middle x.first x.cert x.rest)
-        where
-          in_middle : (xs : List Cert) (c : Cert) (ys : List Cert) → In c (xs ++ c ∷ ys)
-          in_middle [] c ys = inl refl
-          in_middle (x ∷ xs) c ys = inr (in_middle xs c ys)
 
       m : In x.cert (certs l)
       m = subst (In x.cert) (sym x.certs) (in_pending x.begin x.cert pend).0
@@ -140,31 +167,14 @@ module _ (t : Setup) (i : Inc) (base : List law.Placed) where
       d : (e : law.Cert) × Mem e (certified_of t base l) × Alike x.cert e
       d = sound.knows.of_list x.cert m
 
-      ascends : Ascends (x.first ++ x.cert ∷ x.rest)
-      ascends =
-          subst Ascends x.pending
-          (ascends_filter (λ (y : Cert). not (has (executed x.begin) y.gtid)) (reverse (certs x.begin)) (subst (λ y. Ascends (reverse y)) x.certs (ascends_reverse (certs l) sound.knows.descends)))
-
-      -- those committed since the beginning of the point are earlier ones
-      earlier : (h : Gtid) → In h x.since → (IsUuid h.source × IsNumber h.number) × (gtid_eq h (x.cert).gtid ≡ false)
-      earlier h n =
-          let a = of_first x.first x.since x.earlier h n in
-          let b : In a.0 (pending x.begin) = subst (In a.0) (sym x.pending) (in_front t i base x.first (x.cert ∷ x.rest) a.0 a.1) in
-          let here : In a.0 (certs l) = subst (In a.0) (sym x.certs) (in_pending x.begin a.0 b).0 in
-          let e = sound.knows.of_list a.0 here in
-          let less = ascends_before x.first x.cert x.rest ascends a.0 a.1 in
-          (subst (λ (y : Gtid). IsUuid y.source × IsNumber y.number) a.2 (sound.knows.numbers a.0 here), other a.0 e a.2 less)
-        where
-          other : (y : Cert) → ((e : law.Cert) × Mem e (certified_of t base l) × Alike y e) → y.gtid ≡ h → y.place < (x.cert).place → gtid_eq h (x.cert).gtid ≡ false
-          other y e q less = elim (cases_Bool (gtid_eq h (x.cert).gtid)) [
-            | inr z ↦ z
-            | inl z ↦ (let same : e.0 ≡ d.0 = distinct e.0 d.0 e.1 d.1 (sym e.2.gtid ∙ q ∙ gtid_eq_same h (x.cert).gtid z ∙ d.2.gtid) in
-                let p : y.place ≡ (x.cert).place = e.2.place ∙ ap (λ (u : law.Cert). u.place) same ∙ sym d.2.place in
-                absurd (omega (arith, p, less)))
-          ]
+      same : (y z : Cert) → In y (certs l) → In z (certs l) → y.gtid ≡ z.gtid → y.place ≡ z.place
+      same y z m n q =
+          let a = sound.knows.of_list y m in
+          let b = sound.knows.of_list z n in
+          a.2.place ∙ ap (λ (u : law.Cert). u.place) (distinct a.0 b.0 a.1 b.1 (sym a.2.gtid ∙ q ∙ b.2.gtid)) ∙ sym b.2.place
 
       fresh : has (executed l) (x.cert).gtid ≡ false
-      fresh = ap (λ y. has y (x.cert).gtid) x.executed ∙ not_among (executed x.begin) x.since (x.cert).gtid (canonical x.begin (sets_past x.begin l x.past sets)) earlier (in_pending x.begin x.cert pend).1
+      fresh = commit_new l g x sound.knows.descends sound.knows.numbers same sets
 
       own_origin : is_own i x.cert ≡ true → (d.0).origin ≡ i
       own_origin q = sym d.2.origin ∙ inc_is (x.cert).id.origin i q

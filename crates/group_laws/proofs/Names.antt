@@ -3,7 +3,7 @@ use Rattle.std.proofs.Common.{◌≡◌, ℕ, List, true, eqb, eqb-true, eq-eqb,
 use Rattle.std.proofs.lemmas.Bool.{and_parts, and_from}
 use Rattle.std.proofs.lemmas.Slice.Eq.{bytes_eq-Decides}
 pub use Rattle.key_items.proofs.Order.{item_eq_same, item_eq_itself}
-use Rattle.group_laws.specs.Names.{Inc, Gtid, bytes_eq, inc_eq, gtid_eq}
+use Rattle.group_laws.specs.Names.{Gtid, bytes_eq, gtid_eq}
 
 pub eqb-self : (a : ℕ) → eqb a a ≡ true
 eqb-self a = eq-eqb a a refl

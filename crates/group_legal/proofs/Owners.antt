@@ -32,7 +32,7 @@ use Rattle.group_lives.specs.Lives.{placed, made_as, sync_number, asking, did_of
 use Rattle.group_lives.specs.Sound.{HasSets}
 use Rattle.group_lives.proofs.Sets.{canonical}
 
-some_none : {A : Type 0} {x : A} → Some x ≡ None → ⊥
+pub some_none : {A : Type 0} {x : A} → Some x ≡ None → ⊥
 some_none e = absurd (cc e)
 
 some_is : {A : Type 0} {x y : A} → Some x ≡ Some y → x ≡ y
@@ -198,12 +198,12 @@ pub record HasNumbers (t : Setup) (w : Past) : Type 0 where
   pub committed : (p : Past) (i : Inc) (g : Gtid) → IsPast (Does i (Committed g) ∷ p) w → IsUuid g.source × IsNumber g.number
   pub written : AllWritten (λ p n x. IsNumber x.gtid.number) w
 
-all_written_past : (P : Past → ℕ → OfflineWrite → Type 0) (w p : Past) → IsPast p w → AllWritten P w → AllWritten P p
-all_written_past P [] p h a = subst (AllWritten P) (sym h) tt
-all_written_past P (x ∷ w) p (inl e) a = subst (AllWritten P) (sym e) a
-all_written_past P (Does i d ∷ w) p (inr h) a = all_written_past P w p h a
-all_written_past P (Writes n x ∷ w) p (inr h) a = all_written_past P w p h a.1
-all_written_past P (Halts n ∷ w) p (inr h) a = all_written_past P w p h a
+pub written_past : (P : Past → ℕ → OfflineWrite → Type 0) (w p : Past) → IsPast p w → AllWritten P w → AllWritten P p
+written_past P [] p h a = subst (AllWritten P) (sym h) tt
+written_past P (x ∷ w) p (inl e) a = subst (AllWritten P) (sym e) a
+written_past P (Does i d ∷ w) p (inr h) a = written_past P w p h a
+written_past P (Writes n x ∷ w) p (inr h) a = written_past P w p h a.1
+written_past P (Halts n ∷ w) p (inr h) a = written_past P w p h a
 
 -- the sets of what happened are canonical
 pub record SetsAt (p : Past) : Type 0 where
@@ -261,7 +261,7 @@ module _ (t : Setup) (w : Past) (servers : OfServers t w) (numbers : HasNumbers 
       below = past_of (Writes m x ∷ p) p w k (inr (past_self p))
 
       number : IsNumber x.gtid.number
-      number = (all_written_past (λ p n x. IsNumber x.gtid.number) w (Writes m x ∷ p) k numbers.written).0
+      number = (written_past (λ p n x. IsNumber x.gtid.number) w (Writes m x ∷ p) k numbers.written).0
 
       wrote : ℕ → Stored
       wrote n = let y : Stored = stored_in p n in record { executed = with_gtid y.executed x.gtid; committed = y.committed; writes = y.writes ++ x ∷ [] }
@@ -397,7 +397,7 @@ module _ (t : Setup) (w : Past) (servers : OfServers t w) (numbers : HasNumbers 
         below = past_of (Writes m x ∷ p) p w k (inr (past_self p))
 
         number : IsNumber x.gtid.number
-        number = (all_written_past (λ p n x. IsNumber x.gtid.number) w (Writes m x ∷ p) k numbers.written).0
+        number = (written_past (λ p n x. IsNumber x.gtid.number) w (Writes m x ∷ p) k numbers.written).0
 
         wrote : Stored
         wrote = let y : Stored = stored_in p n in record { executed = with_gtid y.executed x.gtid; committed = y.committed; writes = y.writes ++ x ∷ [] }

@@ -41,7 +41,7 @@ past_is_upto p k h = sym (upto_all (length p) p (omega arith)) ∙ sym (upto_pas
 pub list_length : (t : Setup) (log : List Value) → length (list_of t log) ≡ (reading_of t log).place
 list_length t log = places_agree t [] (listed t log) (takes t [] log) ∙ listed_place t log
 
-abbrev list_if : Setup → Value → List Value → Bool → List law.Placed
+abbrev pub list_if : Setup → Value → List Value → Bool → List law.Placed
 list_if t v log b = elim b [ true ↦ placed (new_entry t v log) ∷ list_of t log | false ↦ list_of t log ]
 
 pub list_more : (t : Setup) (v : Value) (log : List Value) → list_of t (v ∷ log) ≡ list_if t v log (is_kept (reading_of t log) v)

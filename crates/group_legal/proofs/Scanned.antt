@@ -194,7 +194,7 @@ entry_outcome s l h v o = go v.what refl
     go (Add j) e = here (Add j) e (added_none s cs v.id.origin (Add j) (not h) (add_plain s cs v.id.origin j))
     go (Remove i) e = here (Remove i) e (added_none s cs v.id.origin (Remove i) (not h) (remove_plain s cs v.id.origin i))
 
-no_give : (t : Setup) (log : List Value) → has_give (listed t log) ≡ false
+pub no_give : (t : Setup) (log : List Value) → has_give (listed t log) ≡ false
 no_give t [] = refl
 no_give t (v ∷ log) = go (is_kept (reading_of t log) v) (no_give t log)
   where

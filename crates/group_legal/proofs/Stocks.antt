@@ -45,21 +45,21 @@ CommitsOnce (d ∷ l) = CommitsOnce l
 
 -- ---- lists
 
-in_first : {A : Type 0} (x : A) (xs ys : List A) → In x xs → In x (xs ++ ys)
+pub in_first : {A : Type 0} (x : A) (xs ys : List A) → In x xs → In x (xs ++ ys)
 in_first x [] ys h = absurd h
 in_first x (y ∷ xs) ys (inl e) = inl e
 in_first x (y ∷ xs) ys (inr h) = inr (in_first x xs ys h)
 
-in_second : {A : Type 0} (x : A) (xs ys : List A) → In x ys → In x (xs ++ ys)
+pub in_second : {A : Type 0} (x : A) (xs ys : List A) → In x ys → In x (xs ++ ys)
 in_second x [] ys h = h
 in_second x (y ∷ xs) ys h = inr (in_second x xs ys h)
 
-in_either : {A : Type 0} (x : A) (xs ys : List A) → In x (xs ++ ys) → In x xs ⊎ In x ys
+pub in_either : {A : Type 0} (x : A) (xs ys : List A) → In x (xs ++ ys) → In x xs ⊎ In x ys
 in_either x [] ys h = inr h
 in_either x (y ∷ xs) ys (inl e) = inl (inl e)
 in_either x (y ∷ xs) ys (inr h) = elim (in_either x xs ys h) [ inl k ↦ inl (inr k) | inr k ↦ inr k ]
 
-filter_in : (test : Cert → Bool) (c : Cert) (xs : List Cert) → In c xs → test c ≡ true → In c (filter test xs)
+pub filter_in : (test : Cert → Bool) (c : Cert) (xs : List Cert) → In c xs → test c ≡ true → In c (filter test xs)
 filter_in test c [] h q = absurd h
 filter_in test c (x ∷ xs) h q = go (test x) refl h (λ k. filter_in test c xs k q)
   where

@@ -2,4 +2,5 @@ pub mod Lists
 pub mod Bases
 pub mod Order
 pub mod LawRun
+pub mod Ranges
 pub mod OwnRanges

@@ -10,7 +10,6 @@ use Rattle.gr_ids.specs.declared.names.Inc.{Inc}
 use Rattle.slot_values.specs.declared.value.Value.{Value}
 use Rattle.slot_values.specs.declared.value.What.TheVariants.{Noop}
 use Rattle.slot_values.specs.Values.{is_noop}
-use Rattle.slot_values.specs.declared.member.Member.{Member}
 use Rattle.slot_values.specs.declared.kept.Kept.{Kept}
 use Rattle.slot_values.specs.declared.kept.Kept.TheVariants.{At as KeptAt, Skipped as IsSkipped}
 use Rattle.slot_values.specs.Log.{Reading, is_next, is_kept, became, after}
@@ -249,7 +248,7 @@ module _ (t : Setup) (good : IsSetup t) (one : InEveryRun OneLog) (kept : InEver
 
   -- a Give tells what the history of its sender was
   given_by : (q : Past) (i : Inc) (g : Give) (cs : List Cert) → IsPast (Does i (Restores g cs) ∷ q) w.past → GivenBy t q i g cs
-  given_by q i g cs k = record { giver = r.message.from; sent = told.0; sent_before = sent_before; add = sent.add; before = at.1.0; earlier = at.1.1; asked = ask.0; asked_before = asked_before; give = give; certs = r.certs; no_extra = no_extra; welcome = entered_here.0; entered = entered_here.1; place = place; ungiven = ungiven }
+  given_by q i g cs k = record { giver = r.message.from; sent = told.0; sent_before = sent_before; add = sent.add; before = at.1.0; earlier = at.1.1; asked = ask.0; asked_before = asked_before; asking = subst (λ y. is_recovering (state (life_in ask.0 y)) ≡ true) asker asked_as.0; give = give; certs = r.certs; no_extra = no_extra; welcome = entered_here.0; entered = entered_here.1; place = place; ungiven = ungiven }
     where
       done_q : AllDid (IsDone t) q
       done_q = (did_past (IsDone t) w.past (Does i (Restores g cs) ∷ q) x.done k).1

@@ -13,7 +13,7 @@ use Rattle.gtid_sets.specs.Sets.{minus}
 use Rattle.paxos_forms.specs.declared.welcome.Welcome.{Welcome}
 use Rattle.paxos_forms.specs.declared.recovery.Give.{Give}
 use Rattle.group_rules.specs.Events.{Did, Took, Skips, Enters, Restores, Life, Setup, Entry, Cert}
-use Rattle.group_rules.specs.Life.{view, taken, executed, entry_at, entered, has_give}
+use Rattle.group_rules.specs.Life.{state, is_recovering, view, taken, executed, entry_at, entered, has_give}
 use Rattle.group_rules.specs.Parts.{open_parts}
 use Rattle.group_rules.specs.Legal.{IsPast, DidAt, last_slot, WasMade, SameEntry}
 use Rattle.group_rules.specs.Taking.{entry_of}
@@ -113,6 +113,7 @@ pub record GivenBy (t : Setup) (q : Past) (i : Inc) (g : Give) (cs : List Cert) 
   pub earlier : IsPast (Does giver (Took add) ∷ before) sent
   pub asked : Past
   pub asked_before : IsPast asked q
+  pub asking : is_recovering (state (life_in asked i)) ≡ true
   pub give : g ≡ give_of t (Took add ∷ life_in before giver) (filter (λ c. nat_le c.place add.place) (known (life_in sent giver))) add.place (executed (life_in asked i))
   pub certs : cs ≡ certs_given g.txns
   pub no_extra : minus (executed (life_in q i)) g.certified ≡ []

@@ -1,12 +1,11 @@
 -- What happened, one thing after another.
-use Rattle.std.proofs.Common.{eq-eqb, eqb, ◌≡◌, ◌⊎◌, inl, inr, ℕ, ◌+◌, ◌-◌, true, false, Some, List, [], ◌∷◌, ◌++◌, refl, ap, ◌∙◌, arith, length, take, length-append}
+use Rattle.std.proofs.Common.{eq-eqb, ◌≡◌, ◌⊎◌, inl, inr, ℕ, ◌+◌, ◌-◌, true, false, Some, List, [], ◌∷◌, ◌++◌, refl, ap, ◌∙◌, arith, length, take, length-append}
 use Rattle.std.specs.Prelude.{map, ◌==◌}
-use Rattle.std.proofs.lemmas.Bool.{and_from, and_parts, eqb-true}
 use Rattle.gr_ids.specs.Names.{inc_eq}
 use Rattle.gr_ids.specs.declared.names.Inc.{Inc}
 use Rattle.slot_values.specs.declared.value.Value.{Value}
 use Rattle.node_rules.specs.Lists.{In}
-use Rattle.node_rules.proofs.Incs.{inc_same, inc_is}
+use Rattle.node_rules.proofs.Incs.{inc_same}
 use Rattle.group_rules.specs.Events.{Did, Made, Life}
 use Rattle.group_rules.specs.World.{Past, Does, Writes, Halts, life_in, dids}
 use Rattle.group_rules.specs.Legal.{IsPast, WasMade}

@@ -7,7 +7,7 @@ use Rattle.std.specs.Str.{bytes_eq}
 use Rattle.gr_ids.specs.Names.{inc_eq, ballot_eq, ballot_lt, id_eq}
 use Rattle.node_rules.proofs.Incs.{inc_same, inc_is}
 use Rattle.node_rules.specs.Chosen.{Cast, cast_eq}
-use Rattle.order_laws.specs.Names.{Inc, Ballot, Value, ValueId, What, Noop, Add, Remove, Body, Joiner, Vote}
+use Rattle.order_laws.specs.Names.{Ballot, Value, ValueId, What, Noop, Add, Remove, Body, Joiner, Vote}
 use Rattle.slot_values.specs.Values.{joiner_eq, what_eq, value_eq, vote_eq}
 
 pub ballot-eq : (a b : Ballot) → ballot_eq a b ≡ true → a ≡ b

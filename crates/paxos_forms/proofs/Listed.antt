@@ -1,5 +1,5 @@
 -- Each element of a list that fits its form can be put.
-use Rattle.std.proofs.Common.{ℕ, ◌≤◌, ◌<◌, ◌^◌, List, [], ◌∷◌, length, Option, Some, None, arith}
+use Rattle.std.proofs.Common.{ℕ, ◌≤◌, ◌<◌, ◌^◌, List, length, Option, Some, None, arith}
 use Rattle.std.specs.List.{AllByRecursion}
 use Rattle.byte_forms.specs.Lists.{IsChain}
 use Rattle.byte_forms.proofs.ListLemmas.{chain_all}
@@ -11,10 +11,6 @@ use Rattle.key_items.proofs.ItemLemmas.{each_item}
 use Rattle.slot_values.specs.declared.value.Vote.{Vote}
 use Rattle.slot_values.specs.Spelling.{IsWhat, IsVoteAfter}
 use Rattle.paxos_forms.specs.Gives.{Given, IsKeptAfter, IsGivenAfter, item_of_kept}
-
-pub all_unit : {A : Type 0} (xs : List A) → AllByRecursion (λ x. Unit {0}) xs
-all_unit [] = tt
-all_unit (x ∷ xs) = (tt, all_unit xs)
 
 pub votes_fit : (xs : List Vote) → IsChain IsVoteAfter None xs → AllByRecursion (λ v. IsWhat v.value.id.number v.value.what) xs
 votes_fit xs h = chain_all IsVoteAfter (λ v. IsWhat v.value.id.number v.value.what) (λ before v is. is.value.what) None xs h

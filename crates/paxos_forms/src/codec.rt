@@ -4,7 +4,7 @@ ghost use Rattle.byte_forms.specs.Cuts.{Takes};
 ghost use Rattle.byte_forms.specs.Packs.{Keeps};
 ghost use Rattle.byte_forms.specs.Reads.{Got, whole};
 ghost use Rattle.byte_forms.specs.Unreads.{Breaks};
-ghost use Rattle.paxos_forms.specs.Messages.{IsMessage, message_bytes, next_message};
+ghost use Rattle.paxos_forms.specs.Messages.{IsHeld, IsMessage, message_bytes, next_message};
 ghost use Rattle.paxos_forms.specs.Faults.{IsFault};
 ghost use Rattle.gr_ids.specs.declared.memory.Memory.{Memory};
 
@@ -16,10 +16,12 @@ use gr_ids::{Blob, Memory};
 use name_forms::{put_inc, take_inc};
 use std::alloc::Global;
 
-/// The bytes of a message. Linear in them.
+/// The bytes of a message, which are read as that message again. Linear in them. A set whose counts need more than four
+/// bytes has no spelling, and is answered as want of memory; it would take 128 GiB.
 pub fn encode(alloc: Global, message: &Message) -> Result<Blob, Memory>
     requires { IsMessage message.now }
-    ensures { IfOk result (λ blob. blob ≡ message_bytes message.now) }
+    ensures ok { IfOk result (λ blob. blob ≡ message_bytes message.now) }
+    ensures back { IfOk result (λ blob. whole next_message blob ≡ Got message.now []) }
 {
     let mut to = Packer::new(alloc);
     put_message(&mut to, message)?;
@@ -53,6 +55,7 @@ fn take_message(alloc: Global, cutter: &mut Cutter) -> Result<Message, Unread>
 fn put_message(to: &mut Packer, message: &Message) -> Result<(), Memory>
     requires { IsMessage message.now }
     ensures ok { OnOk result (to.new ≡ to.old ++ message_bytes message.now) }
+    ensures held { OnOk result (IsHeld message.now.wire) }
     ensures err { OnErr result (Keeps to.old to.new) }
 {
     put_inc(to, message.from)?;

@@ -6,12 +6,11 @@ ghost use Rattle.byte_forms.specs.Unreads.{Breaks};
 ghost use Rattle.key_items.specs.Spelling.{IsItem};
 ghost use Rattle.name_forms.specs.OpenParts.{inc_of_parts as inc_of_parts_of};
 ghost use Rattle.slot_values.specs.Slots.{last_slot};
-ghost use Rattle.paxos_forms.specs.Gives.{given_bytes, inc_of_last as inc_of_last_of, inc_of_told as inc_of_told_of, item_of_kept as item_of_kept_of, kept_bytes, last_bytes, next_given_after, next_kept_after, next_last_after, next_parts_after, next_told_after, parts_bytes, place_above as place_above_of, told_bytes};
+ghost use Rattle.paxos_forms.specs.Gives.{given_bytes, inc_of_last as inc_of_last_of, item_of_kept as item_of_kept_of, kept_bytes, last_bytes, next_given_after, next_kept_after, next_last_after, next_parts_after, parts_bytes, place_above as place_above_of};
 
 use crate::recovery::Given;
 use byte_forms::{Cutter, ListForm, Misfit, Packer, Unread, put_counted, take_counted};
 use gr_ids::{Inc, LastNumber, Memory, OpenParts, Pos};
-use gtid_sets::{GtidSet, ToldSet};
 use key_items::{Item, KeptItem, put_item, take_item_after};
 use name_forms::{put_gtid, put_inc, take_gtid, take_inc, take_inc_after};
 use std::alloc::Global;
@@ -131,56 +130,6 @@ fn item_of_kept(before: Option<&KeptItem>) -> Option<&Item>
     match before {
         None => None,
         Some(kept) => Some(&kept.item),
-    }
-}
-
-/// Told sets, each incarnation above the one before it.
-pub(crate) struct ToldSets;
-
-impl ListForm for ToldSets {
-    type Element = ToldSet;
-
-    ghost reader = { λ form before. next_told_after before };
-
-    ghost spelling = { λ form told. told_bytes told };
-
-    ghost CanPrecede = { λ form told. told.inc.server ≤ 32 };
-
-    ghost CanPut = { λ form told. Unit {0} };
-
-    fn take_next(
-        &self,
-        alloc: Global,
-        from: &mut Cutter,
-        before: Option<&ToldSet>,
-    ) -> Result<ToldSet, Unread> {
-        take_told(alloc, from, before)
-    }
-
-    fn put_next(&self, to: &mut Packer, told: &ToldSet) -> Result<(), Memory> {
-        put_inc(to, told.inc)?;
-        told.set.write_bytes(to)
-    }
-}
-
-#[tactic(auto, unfolding(crate::specs::Gives::next_told_after))]
-fn take_told(alloc: Global, from: &mut Cutter, before: Option<&ToldSet>) -> Result<ToldSet, Unread>
-    requires { IfSome (option_copied before) (λ b. b.inc.server ≤ 32) }
-    ensures ok { IfOk result (λ told. Takes (next_told_after (option_copied before.entry)) from.old told from.new) }
-    ensures range { IfOk result (λ told. told.inc.server ≤ 32) }
-    ensures misfit { IfErr result (λ e. Breaks (next_told_after (option_copied before.entry)) from.old e) }
-{
-    let inc = take_inc_after(from, inc_of_told(before))?;
-    let set = GtidSet::read_bytes(alloc, from)?;
-    Ok(ToldSet { inc, set })
-}
-
-fn inc_of_told(before: Option<&ToldSet>) -> Option<Inc>
-    ensures { result ≡ inc_of_told_of (option_copied before.entry) }
-{
-    match before {
-        None => None,
-        Some(told) => Some(told.inc),
     }
 }
 

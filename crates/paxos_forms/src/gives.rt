@@ -3,11 +3,15 @@ ghost use Rattle.std.specs.Prelude.{◌≡◌, ◌++◌, IfErr, IfOk, OnErr, OnO
 ghost use Rattle.byte_forms.specs.Cuts.{Takes};
 ghost use Rattle.byte_forms.specs.Packs.{Keeps};
 ghost use Rattle.byte_forms.specs.Unreads.{Breaks};
-ghost use Rattle.paxos_forms.specs.Gives.{IsGive, ask_bytes, give_bytes, next_ask, next_give};
+ghost use Rattle.std.specs.List.{AllByRecursion};
+ghost use Rattle.gtid_sets.specs.Spelling.{HasCounts};
+ghost use Rattle.paxos_forms.specs.Gives.{IsGive, IsHeldGive, ask_bytes, give_bytes, next_ask, next_give};
 ghost use Rattle.paxos_forms.specs.GiveParts.{lacks_bytes, state_bytes};
 
-use crate::donors::{KeptItems, LastNumbers, PartsOpen, ToldSets, Txns};
+use crate::donors::{KeptItems, LastNumbers, PartsOpen, Txns};
+use crate::fits::kept_items_fit;
 use crate::recovery::{Ask, Give};
+use crate::told_sets::{ToldSets, put_told_sets};
 use byte_forms::{Cutter, Packer, Unread, put_list, take_list};
 use gr_ids::{Memory, Pos};
 use gtid_sets::GtidSet;
@@ -31,6 +35,7 @@ pub(crate) fn take_ask(alloc: Global, from: &mut Cutter) -> Result<Ask, Unread>
 
 pub(crate) fn put_ask(to: &mut Packer, ask: &Ask) -> Result<(), Memory>
     ensures ok { OnOk result (to.new ≡ to.old ++ ask_bytes ask.now) }
+    ensures held { OnOk result (HasCounts ask.now.executed) }
     ensures err { OnErr result (Keeps to.old to.new) }
 {
     to.put_u64(ask.place.0)?;
@@ -66,8 +71,10 @@ pub(crate) fn take_give(alloc: Global, from: &mut Cutter) -> Result<Give, Unread
 pub(crate) fn put_give(to: &mut Packer, give: &Give) -> Result<(), Memory>
     requires { IsGive give.now }
     ensures ok { OnOk result (to.new ≡ to.old ++ give_bytes give.now) }
+    ensures held { OnOk result (IsHeldGive give.now) }
     ensures err { OnErr result (Keeps to.old to.new) }
 {
+    kept_items_fit(give.items.as_slice());
     put_state(to, give)?;
     put_lacks(to, give)
 }
@@ -75,6 +82,7 @@ pub(crate) fn put_give(to: &mut Packer, give: &Give) -> Result<(), Memory>
 fn put_state(to: &mut Packer, give: &Give) -> Result<(), Memory>
     requires { IsGive give.now }
     ensures ok { OnOk result (to.new ≡ to.old ++ state_bytes give.now) }
+    ensures held { OnOk result (AllByRecursion (λ x. HasCounts x.set) give.now.told) }
     ensures err { OnErr result (Keeps to.old to.new) }
 {
     let place = give.place.0;
@@ -82,12 +90,13 @@ fn put_state(to: &mut Packer, give: &Give) -> Result<(), Memory>
     to.put_u64(give.blocks)?;
     put_list(to, give.last.as_slice(), &LastNumbers)?;
     put_list(to, give.items.as_slice(), &KeptItems { place })?;
-    put_list(to, give.told.as_slice(), &ToldSets)
+    put_told_sets(to, give.told.as_slice())
 }
 
 fn put_lacks(to: &mut Packer, give: &Give) -> Result<(), Memory>
     requires { IsGive give.now }
     ensures ok { OnOk result (to.new ≡ to.old ++ lacks_bytes give.now) }
+    ensures held { OnOk result (HasCounts give.now.certified) }
     ensures err { OnErr result (Keeps to.old to.new) }
 {
     let place = give.place.0;

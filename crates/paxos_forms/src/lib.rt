@@ -4,6 +4,7 @@
 mod codec;
 mod donors;
 mod fault;
+mod fits;
 mod gives;
 mod incs;
 mod laws;
@@ -12,6 +13,7 @@ mod message;
 mod recovery;
 #[cfg(test)]
 mod tests;
+mod told_sets;
 mod welcome;
 mod welcomes;
 mod wires;

@@ -5,7 +5,7 @@ ghost use Rattle.byte_forms.specs.Packs.{Keeps};
 ghost use Rattle.byte_forms.specs.Unreads.{Breaks};
 ghost use Rattle.slot_values.specs.Slots.{last_slot};
 ghost use Rattle.slot_values.specs.Spelling.{IsWhat, next_vote_after, vote_bytes};
-ghost use Rattle.paxos_forms.specs.Messages.{IsWire, next_accept, next_accepted, next_from_slot, next_learn, next_prepare, next_promise, next_slot, next_wire, wire_bytes};
+ghost use Rattle.paxos_forms.specs.Messages.{IsHeld, IsWire, next_accept, next_accepted, next_from_slot, next_learn, next_prepare, next_promise, next_slot, next_wire, wire_bytes};
 
 use crate::gives::{put_ask, put_give, take_ask, take_give};
 use crate::message::Wire;
@@ -138,6 +138,7 @@ pub(crate) fn take_wire(alloc: Global, from: &mut Cutter) -> Result<Wire, Unread
 pub(crate) fn put_wire(to: &mut Packer, wire: &Wire) -> Result<(), Memory>
     requires { IsWire wire.now }
     ensures ok { OnOk result (to.new ≡ to.old ++ wire_bytes wire.now) }
+    ensures held { OnOk result (IsHeld wire.now) }
     ensures err { OnErr result (Keeps to.old to.new) }
 {
     match wire {

@@ -8,3 +8,4 @@ pub mod Again
 pub mod Begins
 pub mod Sends
 pub mod Ranges
+pub mod Given

@@ -1,6 +1,7 @@
 // A whole step of a node.
-ghost use Rattle.std.specs.Prelude.{◌≡◌, ◌++◌, IfOk, OnOk};
+ghost use Rattle.std.specs.Prelude.{◌≡◌, ◌++◌, ◌≤◌, IfOk, OnOk, length};
 ghost use Rattle.gr_ids.specs.declared.memory.Memory.{Memory};
+ghost use Rattle.slot_values.specs.Spelling.{last_u32};
 ghost use Rattle.node_rules.specs.Step.{hear, node_step, row};
 ghost use Rattle.paxos_node.specs.Events.{IsInRange, MayHappen};
 
@@ -10,17 +11,25 @@ use node_rules::PaxosEvent;
 use paxos_forms::{Message, Wire};
 use std::alloc::Global;
 
+// As many votes as a promise can report: 2^32 - 1.
+const MOST_VOTES: usize = 4_294_967_295;
+
 impl Node {
     /// Does the row of the event, and then forgets the slots that every member is known to have; answers the messages that
     /// are sent. A message has the ranges of its form. Where memory is refused, some of the row may be done, and nothing is
-    /// sent: the caller stops the member. The cost is that of the row: at most linear in the members, the horizon, the
-    /// proposals and own values that wait, and the bytes that are sent.
+    /// sent: the caller stops the member. It is also refused where more votes are kept than a promise can report, 2^32 - 1.
+    /// The cost is that of the row: at most linear in the members, the horizon, the proposals and own values that wait, and
+    /// the bytes that are sent.
     #[tactic(auto, unfolding(node_rules::specs::Step::node_step))]
     pub fn step(&mut self, alloc: Global, event: &PaxosEvent) -> Result<Vec<Message>, Memory>
         requires { MayHappen event.now }
         ensures node { OnOk result (self.new ≡ (node_step event.now self.old).node) }
         ensures sent { IfOk result (λ sent. sent.items ≡ (node_step event.now self.old).sent) }
+        ensures votes { OnOk result (length self.old.acceptor.votes ≤ last_u32) }
     {
+        if self.acceptor.kept_votes() > MOST_VOTES {
+            return Err(Memory);
+        }
         let mut sent = Vec::new(alloc);
         self.row(alloc, &mut sent, event)?;
         self.forget_told();

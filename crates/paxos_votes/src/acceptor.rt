@@ -1,5 +1,5 @@
 // What one node has promised, and how it voted.
-ghost use Rattle.std.specs.Prelude.{◌≡◌, ◌||◌, not, false, nat_lt, IfOk, OnErr, OnOk, Some, None, [], if◌then◌else◌, map};
+ghost use Rattle.std.specs.Prelude.{◌≡◌, ◌||◌, not, false, nat_lt, IfOk, OnErr, OnOk, Some, None, [], if◌then◌else◌, length, map};
 ghost use Rattle.std.specs.Ordering.{nat_cmp};
 ghost use Rattle.std.specs.BTreeMap.{insert_entry};
 ghost use Rattle.gr_ids.specs.declared.memory.Memory.{Memory};
@@ -141,6 +141,13 @@ impl Acceptor {
         ensures { IfOk result (λ votes. votes ≡ votes_from self.now from) }
     {
         Ok(Sequence::from_vec(reported(alloc, &self.votes, from)?))
+    }
+
+    /// How many votes are kept. Takes constant time.
+    pub fn kept_votes(&self) -> usize
+        ensures { result ≡ length self.now.votes }
+    {
+        self.votes.len()
     }
 
     /// The first slot that isn't forgotten. Takes constant time.

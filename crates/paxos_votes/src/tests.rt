@@ -57,6 +57,7 @@ fn an_acceptor_votes_at_or_above_its_promise(rt: HostRuntime) -> Result<(), Fail
         .map(|vote| vote.slot)
         .collect(rt.alloc())?;
     assert_eq!(rt; slots.as_slice(), [2, 3, 4].as_slice());
+    assert_eq!(rt; acceptor.kept_votes(), 3);
     Ok(())
 }
 

@@ -6,7 +6,6 @@ mod changes;
 mod codec;
 mod copies;
 mod fault;
-mod fits;
 mod joined;
 mod joining;
 mod laws;

@@ -7,11 +7,10 @@ ghost use Rattle.txn_forms.specs.Bodies.{IsHeldTxn, IsTxn, next_txn, txn_bytes};
 
 use crate::body::Txn;
 use crate::changes::Changes;
-use crate::fits::items_fit;
 use byte_forms::{Cutter, Packer, Unread, put_list, take_list};
 use gr_ids::Memory;
 use gtid_sets::GtidSet;
-use key_items::{put_write_set, take_write_set};
+use key_items::{items_fit, put_write_set, take_write_set};
 use std::alloc::Global;
 
 #[tactic(auto, unfolding(crate::specs::Bodies::next_txn))]

@@ -1,7 +1,7 @@
 use Rattle.std.proofs.Common.{length}
 use Rattle.std.specs.List.{AllByRecursion}
 use Rattle.key_items.specs.Spelling.{AreBytes}
-use Rattle.txn_forms.proofs.fits.items_fit.Given as goal
+use Rattle.key_items.proofs.fits.items_fit.Given as goal
 
 -- where those that are left are bytes, all are
 abbrev pub invariant-loop-item : goal.invariant-loop-item

@@ -4,11 +4,11 @@ ghost use Rattle.std.specs.List.{AllByRecursion};
 ghost use Rattle.byte_forms.specs.Numbers.{are_bytes};
 ghost use Rattle.key_items.specs.Spelling.{AreBytes};
 
-use key_items::Item;
+use crate::item::Item;
 
-/// The tables and keys of the items are bytes.
+/// The tables and keys of the items are bytes: a clause alone can't tell it of a list of numbers. Compiles to nothing.
 #[inline]
-pub(crate) fn items_fit(items: &[Item])
+pub fn items_fit(items: &[Item])
     ensures { AllByRecursion AreBytes items.now }
 {
     let mut left = items;
@@ -18,8 +18,9 @@ pub(crate) fn items_fit(items: &[Item])
     }
 }
 
+/// The table and the key of the item are bytes. Compiles to nothing.
 #[inline]
-fn item_fits(item: &Item)
+pub fn item_fits(item: &Item)
     ensures { AreBytes item.now }
 {
     bytes_fit(item.table.as_slice());

@@ -1,0 +1,4 @@
+mod Chains
+mod Incs
+mod Known
+mod Rows
