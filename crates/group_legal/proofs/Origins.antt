@@ -1,5 +1,5 @@
 -- Each value of the list was made by its origin before, as what its place does.
-use Rattle.std.proofs.Common.{◌≡◌, ◌⊎◌, inl, inr, ℕ, suc, ◌+◌, Bool, true, false, cond, not, Option, Some, None, List, [], ◌∷◌, ◌++◌, refl, sym, ap, subst, ◌∙◌, length, arith}
+use Rattle.std.proofs.Common.{◌≡◌, ◌⊎◌, inl, inr, ℕ, suc, ◌+◌, Bool, true, false, cond, not, Option, Some, None, List, [], ◌∷◌, refl, sym, ap, subst, ◌∙◌, length, arith}
 use Rattle.std.specs.Prelude.{if◌then◌else◌, nat_le}
 use Rattle.std.proofs.lemmas.Bool.{false≢true, and_parts, not-true}
 use Rattle.gr_ids.specs.declared.names.Inc.{Inc}
@@ -17,7 +17,7 @@ use Rattle.group_rules.specs.Life.{entry_at}
 use Rattle.group_rules.specs.Parts.{open_parts, open_after, held}
 use Rattle.group_rules.specs.OneList.{reading_of, value_at, before_slot, scan_entry, listed_by, listed}
 use Rattle.group_rules.specs.Legal.{IsPast, WasMade}
-use Rattle.group_rules.specs.World.{Past, Does, Writes as WritesOffline, Halts, life_in}
+use Rattle.group_rules.specs.World.{Past, Does, life_in}
 use Rattle.group_runs.specs.Runs.{AllDid, IsDone}
 use Rattle.group_order.specs.OneLog.{TakenAs, Follows, OneLogOf}
 use Rattle.group_order.proofs.Nexts.{past_self, past_of, done_at}
@@ -30,12 +30,12 @@ use Rattle.group_laws.specs.View as seen
 use Rattle.group_laws.specs.Life as lives
 use Rattle.group_laws.specs.World as run
 use Rattle.group_laws.specs.World.{IsKeptList, MadeBy}
-use Rattle.group_laws.proofs.Lists.{IsPast-self}
-use Rattle.group_lives.specs.Lives.{does_body, does_entry, placed, made_as, asking, did_of, all_did, run_of}
+use Rattle.group_lives.specs.Lives.{does_body, does_entry, placed, made_as, asking, run_of}
 use Rattle.group_legal.specs.OwnRanges.{ReadBack, MadeInRange}
 use Rattle.group_legal.proofs.Scanned.{old_list}
 use Rattle.group_legal.proofs.Newcomers.{list_if}
 use Rattle.group_legal.proofs.Numbered.{kept_list}
+use Rattle.group_legal.proofs.Points.{point}
 use Rattle.group_legal.proofs.OwnValues.{Own, owns, last_own, AreOwn, are_own, own_past, own_made, happened, first_in, rest_past, own_of, own_once}
 use Rattle.group_legal.proofs.OwnParts.{open_own, does_as_made}
 
@@ -67,17 +67,6 @@ made_before_slot w (v ∷ log) s h = go (nat_le s (suc (length log))) (made_befo
     go false k = h
 
 -- ---- what was made, in the run of the laws
-
-past_more : {A : Type 0} (p xs ys : List A) → listing.IsPast p ys → listing.IsPast p (xs ++ ys)
-past_more p [] ys h = h
-past_more p (x ∷ xs) ys h = inr (past_more p xs ys h)
-
-point : (base : Inc → List law.Placed) (p w : Past) → IsPast p w → listing.IsPast (run_of base p) (run_of base w)
-point base p [] h = ap (run_of base) h
-point base p (x ∷ w) (inl e) = subst (λ y. listing.IsPast (run_of base y) (run_of base (x ∷ w))) (sym e) (IsPast-self (run_of base (x ∷ w)))
-point base p (Does i d ∷ w) (inr h) = past_more (run_of base p) (all_did i (did_of (base i) d (life_in w i))) (run_of base w) (point base p w h)
-point base p (WritesOffline n x ∷ w) (inr h) = inr (point base p w h)
-point base p (Halts n ∷ w) (inr h) = point base p w h
 
 -- it is the first mark of its making
 abbrev FirstMade : (Inc → List law.Placed) → Past → Value → Option Body → Type 0
