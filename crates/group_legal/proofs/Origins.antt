@@ -1,5 +1,5 @@
 -- Each value of the list was made by its origin before, as what its place does.
-use Rattle.std.proofs.Common.{◌≡◌, ◌⊎◌, inl, inr, ℕ, suc, ◌+◌, Bool, true, false, cond, not, Option, Some, None, List, [], ◌∷◌, ◌++◌, refl, sym, ap, subst, ◌∙◌, length, arith}
+use Rattle.std.proofs.Common.{◌≡◌, ◌⊎◌, inl, inr, ℕ, suc, ◌+◌, Bool, true, false, cond, not, Option, Some, None, List, [], ◌∷◌, refl, sym, ap, subst, ◌∙◌, length, arith}
 use Rattle.std.specs.Prelude.{if◌then◌else◌, nat_le}
 use Rattle.std.proofs.lemmas.Bool.{false≢true, and_parts, not-true}
 use Rattle.gr_ids.specs.declared.names.Inc.{Inc}
@@ -17,7 +17,7 @@ use Rattle.group_rules.specs.Life.{entry_at}
 use Rattle.group_rules.specs.Parts.{open_parts, open_after, held}
 use Rattle.group_rules.specs.OneList.{reading_of, value_at, before_slot, scan_entry, listed_by, listed}
 use Rattle.group_rules.specs.Legal.{IsPast, WasMade}
-use Rattle.group_rules.specs.World.{Past, Does, Writes as WritesOffline, Halts, life_in}
+use Rattle.group_rules.specs.World.{Past, Does, life_in}
 use Rattle.group_runs.specs.Runs.{AllDid, IsDone}
 use Rattle.group_order.specs.OneLog.{TakenAs, Follows, OneLogOf}
 use Rattle.group_order.proofs.Nexts.{past_self, past_of, done_at}
@@ -30,12 +30,12 @@ use Rattle.group_laws.specs.View as seen
 use Rattle.group_laws.specs.Life as lives
 use Rattle.group_laws.specs.World as run
 use Rattle.group_laws.specs.World.{IsKeptList, MadeBy}
-use Rattle.group_laws.proofs.Lists.{IsPast-self}
-use Rattle.group_lives.specs.Lives.{does_body, does_entry, placed, made_as, asking, did_of, all_did, run_of}
+use Rattle.group_lives.specs.Lives.{does_body, does_entry, placed, made_as, asking, run_of}
 use Rattle.group_legal.specs.OwnRanges.{ReadBack, MadeInRange}
 use Rattle.group_legal.proofs.Scanned.{old_list}
 use Rattle.group_legal.proofs.Newcomers.{list_if}
 use Rattle.group_legal.proofs.Numbered.{kept_list}
+use Rattle.group_legal.proofs.Points.{point}
 use Rattle.group_legal.proofs.OwnValues.{Own, owns, last_own, AreOwn, are_own, own_past, own_made, happened, first_in, rest_past, own_of, own_once}
 use Rattle.group_legal.proofs.OwnParts.{open_own, does_as_made}
 
@@ -68,17 +68,6 @@ made_before_slot w (v ∷ log) s h = go (nat_le s (suc (length log))) (made_befo
 
 -- ---- what was made, in the run of the laws
 
-past_more : {A : Type 0} (p xs ys : List A) → listing.IsPast p ys → listing.IsPast p (xs ++ ys)
-past_more p [] ys h = h
-past_more p (x ∷ xs) ys h = inr (past_more p xs ys h)
-
-point : (base : Inc → List law.Placed) (p w : Past) → IsPast p w → listing.IsPast (run_of base p) (run_of base w)
-point base p [] h = ap (run_of base) h
-point base p (x ∷ w) (inl e) = subst (λ y. listing.IsPast (run_of base y) (run_of base (x ∷ w))) (sym e) (IsPast-self (run_of base (x ∷ w)))
-point base p (Does i d ∷ w) (inr h) = past_more (run_of base p) (all_did i (did_of (base i) d (life_in w i))) (run_of base w) (point base p w h)
-point base p (WritesOffline n x ∷ w) (inr h) = inr (point base p w h)
-point base p (Halts n ∷ w) (inr h) = point base p w h
-
 -- it is the first mark of its making
 abbrev FirstMade : (Inc → List law.Placed) → Past → Value → Option Body → Type 0
 FirstMade base q v b = (past : run.World) × (run_of base (Does v.id.origin (Made v b) ∷ q) ≡ run.Does v.id.origin (lives.Made (made_as v b)) ∷ past)
@@ -94,7 +83,8 @@ first_made base q v (Some (Switches m)) = (run_of base q, refl)
 first_made base q v (Some (Appoints i)) = (run_of base q, refl)
 first_made base q v (Some (PartOf p)) = (run_of base q, refl)
 
-made_by : (base : Inc → List law.Placed) (q p : Past) (e : Entry) (b : Option Body) → IsPast (Does e.value.id.origin (Made e.value b) ∷ q) p → unplaced (does_entry e.value.what e.effect e.holds) ≡ does_body b
+made_by : (base : Inc → List law.Placed) (q p : Past) (e : Entry) (b : Option Body) → IsPast (Does e.value.id.origin (Made e.value b) ∷ q) p
+    → unplaced (does_entry e.value.what e.effect e.holds) ≡ does_body b
     → MadeBy (run_of base p) (placed e).value
 made_by base q p e b k h =
     let f = first_made base q e.value b in
@@ -151,7 +141,8 @@ module _ (t : Setup) where
         let before = f xs rest (omega (arith, number, q, n)) in
         λ j. open_after o (held (before j) (sym (ap (λ (y : Own). y.value.what) same) j)) (before j)
 
-    one_more : (b : Bool) (v : Value) (log : List Value) → is_kept (reading_of t log) v ≡ b → (is_noop v.what ≡ false → WasMade w v) → Agrees log → AgreesIf b v log
+    one_more : (b : Bool) (v : Value) (log : List Value) → is_kept (reading_of t log) v ≡ b → (is_noop v.what ≡ false → WasMade w v) → Agrees log
+        → AgreesIf b v log
     one_more false v log e m f xs k q = f xs k q
     one_more true v log e m f xs k q = go (inc_eq v.id.origin o) refl q
       where
@@ -180,7 +171,8 @@ module _ (t : Setup) (w : Past) (one : OneLogOf t w) (done : AllDid (IsDone t) w
       made : (s : ℕ) (v : Value) → value_at one.log s ≡ Some v → is_noop v.what ≡ false → WasMade w v
       made s v h n = by (one.no_other s v h)
         where
-          by : ((i : Inc) × (p : Past) × (((e : Entry) × (e.slot ≡ s) × IsPast (Does i (Took e) ∷ p) w) ⊎ IsPast (Does i (Skips s v) ∷ p) w)) → WasMade w v
+          by : ((i : Inc) × (p : Past) × (((e : Entry) × (e.slot ≡ s) × IsPast (Does i (Took e) ∷ p) w) ⊎ IsPast (Does i (Skips s v) ∷ p) w))
+              → WasMade w v
           by (i, p, inl (e, slot, k)) =
               let f = done_at (Follows t one.log) w p i (Took e) one.follows k in
               let both : Some e.value ≡ Some v = sym f.value ∙ ap (value_at one.log) slot ∙ h in
@@ -191,7 +183,8 @@ module _ (t : Setup) (w : Past) (one : OneLogOf t w) (done : AllDid (IsDone t) w
               made_past p w v (past_of (Does i (Skips s v) ∷ p) p w k (inr (past_self p))) (f.made n)
 
   -- what an entry holds, by the parts that its origin has open in the list before it
-  entry_holds : (p : Past) (i : Inc) (e : Entry) → TakenAs t one.log p i e → e.holds ≡ held (open_parts (listed t (before_slot one.log e.slot)) e.value.id.origin) e.value.what
+  entry_holds : (p : Past) (i : Inc) (e : Entry) → TakenAs t one.log p i e
+      → e.holds ≡ held (open_parts (listed t (before_slot one.log e.slot)) e.value.id.origin) e.value.what
   entry_holds p i e f =
       let x = f.listed.0 in
       let place : e.place ≡ f.place = ap (λ (y : Entry). y.place) f.is_it in
@@ -256,5 +249,6 @@ module _ (t : Setup) (w : Past) (one : OneLogOf t w) (done : AllDid (IsDone t) w
         ∙ does_as_made reads origin own_before e.value took.made.0 own_then.1 own_then.0.3 own_then.0.2 e.effect
 
   -- each value that is taken was made before, as what its place does
-  pub made_before : (base : Inc → List law.Placed) (p : Past) (i : Inc) (e : Entry) → IsPast (Does i (Took e) ∷ p) w → MadeBy (run_of base p) (placed e).value
+  pub made_before : (base : Inc → List law.Placed) (p : Past) (i : Inc) (e : Entry) → IsPast (Does i (Took e) ∷ p) w
+      → MadeBy (run_of base p) (placed e).value
   made_before base p i e k = made_by base (at p i e k).0 p e (took p i e k).made.0 (at p i e k).1 (does_the_same p i e k)

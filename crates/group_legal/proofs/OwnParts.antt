@@ -47,7 +47,8 @@ other_number a b h = elim (cases_Bool (eqb a b)) [ inl q ↦ absurd (h (eqb-true
 first_opens : (o : Inc) (w : Option OpenParts) (c : ℕ) (b : List ℕ) → 1 < c → after_part o w (part_at 0 c b) ≡ Some (opened o 1 c b)
 first_opens o w c b h = ap (λ (t : Bool). elim (t && true) [ true ↦ Some (opened o 1 c b) | false ↦ None ]) (lt-ltb 1 c h)
 
-next_opens : (o : Inc) (n c : ℕ) (b : List ℕ) → suc (suc n) < c → after_part o (Some (opened o (suc n) c b)) (part_at (suc n) c b) ≡ Some (opened o (suc (suc n)) c b)
+next_opens : (o : Inc) (n c : ℕ) (b : List ℕ) → suc (suc n) < c
+    → after_part o (Some (opened o (suc n) c b)) (part_at (suc n) c b) ≡ Some (opened o (suc (suc n)) c b)
 next_opens o n c b h =
     let more = lt-ltb (suc (suc n)) c h in
     let later = other_number (suc (suc n)) 1 (λ e. omega (arith, e)) in
@@ -63,14 +64,16 @@ module _ (reads : ReadBack) where
   read_own : (b : Body) → InRange b → read_body (body_bytes b) ≡ Some b
   read_own b f = ap value_of (whole_read reads b f)
 
-  part_held : (w : Option OpenParts) (p : Part) → InRange (PartOf p) → (p.index == p.count) ≡ false → held w (Says (body_bytes (PartOf p))) ≡ Some (PartOf p)
+  part_held : (w : Option OpenParts) (p : Part) → InRange (PartOf p) → (p.index == p.count) ≡ false
+      → held w (Says (body_bytes (PartOf p))) ≡ Some (PartOf p)
   part_held w p f e =
       ap (held_body w) (read_own (PartOf p) f)
       ∙ ap (λ (t : Bool). elim (t && goes_on w p) [ true ↦ joined_or (PartOf p) (joined (bytes_before w ++ p.bytes)) | false ↦ Some (PartOf p) ]) e
 
   module _ (o : Inc) where
     -- what was left open after one more of its parts
-    part_left : (x : Own) (xs : List Own) (p : Part) → AreOwn o (x ∷ xs) → x.holds ≡ Some (PartOf p) → open_own o (x ∷ xs) ≡ after_part o (open_own o xs) p
+    part_left : (x : Own) (xs : List Own) (p : Part) → AreOwn o (x ∷ xs) → x.holds ≡ Some (PartOf p)
+        → open_own o (x ∷ xs) ≡ after_part o (open_own o xs) p
     part_left x xs p k e =
         let says : HoldsOwn xs x.value (Some (PartOf p)) = subst (HoldsOwn xs x.value) e k.0.2 in
         let fits : InRange (PartOf p) = subst Fits e k.0.3 in
@@ -78,7 +81,8 @@ module _ (reads : ReadBack) where
         ∙ ap (λ y. open_after o y (open_own o xs)) (part_held (open_own o xs) p fits says.1)
 
     -- the first parts of a transaction are open once they are made
-    parts_open : (n c : ℕ) (b : List ℕ) (xs : List Own) → AreOwn o xs → PartsMade (first_parts (suc n) c b) xs → suc n < c → open_own o xs ≡ Some (opened o (suc n) c b)
+    parts_open : (n c : ℕ) (b : List ℕ) (xs : List Own) → AreOwn o xs → PartsMade (first_parts (suc n) c b) xs → suc n < c
+        → open_own o xs ≡ Some (opened o (suc n) c b)
     parts_open n c b [] k m h = absurd m
     parts_open zero c b (x ∷ xs) k m h = part_left x xs (part_at 0 c b) k m.0 ∙ first_opens o (open_own o xs) c b h
     parts_open (suc n) c b (x ∷ xs) k m h =
@@ -105,17 +109,20 @@ module _ (reads : ReadBack) where
           bytes_below = omega (arith, long);
         }
 
-    whole_again : (n : ℕ) (b : List ℕ) → IsCount (length b) (suc (suc n)) → take (suc n * part_size) b ++ take part_size (drop (suc n * part_size) b) ≡ b
+    whole_again : (n : ℕ) (b : List ℕ) → IsCount (length b) (suc (suc n))
+        → take (suc n * part_size) b ++ take part_size (drop (suc n * part_size) b) ≡ b
     whole_again n b h = joined_more (suc n) b ∙ take_all (suc (suc n) * part_size) b h.enough
 
-    spells_txn : (t : Txn) → InRange (Writes t) → whole_bytes < length (body_bytes (Writes t)) → length (body_bytes (Writes t)) ≤ most_bytes → joined (body_bytes (Writes t)) ≡ Some (Writes t)
+    spells_txn : (t : Txn) → InRange (Writes t) → whole_bytes < length (body_bytes (Writes t)) → length (body_bytes (Writes t)) ≤ most_bytes
+        → joined (body_bytes (Writes t)) ≡ Some (Writes t)
     spells_txn t f large most =
         let a = lt-ltb whole_bytes (length (body_bytes (Writes t))) large in
         let c = le-leb (length (body_bytes (Writes t))) most_bytes most in
         let r = read_own (Writes t) f in
         λ k. elim (a k && c k) [ true ↦ if_txn (r k) | false ↦ None ]
 
-    last_ends : (n : ℕ) (b : List ℕ) → IsCount (length b) (suc (suc n)) → held_part (Some (opened o (suc n) (suc (suc n)) b)) (part_at (suc n) (suc (suc n)) b) ≡ joined_or (PartOf (part_at (suc n) (suc (suc n)) b)) (joined b)
+    last_ends : (n : ℕ) (b : List ℕ) → IsCount (length b) (suc (suc n))
+        → held_part (Some (opened o (suc n) (suc (suc n)) b)) (part_at (suc n) (suc (suc n)) b) ≡ joined_or (PartOf (part_at (suc n) (suc (suc n)) b)) (joined b)
     last_ends n b h =
         let same = same_number (suc (suc n)) (suc (suc n)) refl in
         let on = same_number (suc n + 1) (suc (suc n)) (omega arith) in
@@ -125,13 +132,15 @@ module _ (reads : ReadBack) where
         ])
 
     -- with the last part the whole transaction is held
-    last_held : (xs : List Own) (v : Value) (t : Txn) → AreOwn o xs → InRange (Writes t) → IsLastOf xs v t → held (open_own o xs) v.what ≡ Some (Writes t)
+    last_held : (xs : List Own) (v : Value) (t : Txn) → AreOwn o xs → InRange (Writes t) → IsLastOf xs v t
+        → held (open_own o xs) v.what ≡ Some (Writes t)
     last_held xs v t k f h = go (parts_in b) (counted (length b) h.large h.most) (cut_is (h.last ∷ h.parts) b h.all)
       where
         b : List ℕ
         b = body_bytes (Writes t)
 
-        at_end : (n : ℕ) → IsCount (length b) (suc (suc n)) → h.last ≡ part_at (suc n) (suc (suc n)) b → h.parts ≡ first_parts (suc n) (suc (suc n)) b → held (open_own o xs) v.what ≡ Some (Writes t)
+        at_end : (n : ℕ) → IsCount (length b) (suc (suc n)) → h.last ≡ part_at (suc n) (suc (suc n)) b
+            → h.parts ≡ first_parts (suc n) (suc (suc n)) b → held (open_own o xs) v.what ≡ Some (Writes t)
         at_end n c e q =
             let p : Part = part_at (suc n) (suc (suc n)) b in
             let before : open_own o xs ≡ Some (opened o (suc n) (suc (suc n)) b) = parts_open n (suc (suc n)) b xs k (subst (λ ps. PartsMade ps xs) q h.made) (omega arith) in
@@ -154,7 +163,8 @@ module _ (reads : ReadBack) where
     Does xs v b = (e : Effect) → unplaced (does_entry v.what e (held (open_own o xs) v.what)) ≡ does_body b
 
     -- what says this body
-    said : (xs : List Own) (v : Value) (b : Body) → InRange b → v.what ≡ Says (body_bytes b) → ((w : Option OpenParts) → held_body w (Some b) ≡ Some b) → (unplaced (does_body (Some b)) ≡ does_body (Some b)) → Does xs v (Some b)
+    said : (xs : List Own) (v : Value) (b : Body) → InRange b → v.what ≡ Says (body_bytes b)
+        → ((w : Option OpenParts) → held_body w (Some b) ≡ Some b) → (unplaced (does_body (Some b)) ≡ does_body (Some b)) → Does xs v (Some b)
     said xs v b f h n q e =
         ap (λ w. unplaced (does_entry w e (held (open_own o xs) w))) h
         ∙ ap (λ y. unplaced (does_body (held_body (open_own o xs) y))) (read_own b f)
@@ -162,7 +172,8 @@ module _ (reads : ReadBack) where
         ∙ q
 
     -- a joined transaction
-    txn_said : (xs : List Own) (v : Value) (t : Txn) (p : Part) → v.what ≡ Says (body_bytes (PartOf p)) → held (open_own o xs) v.what ≡ Some (Writes t) → Does xs v (Some (Writes t))
+    txn_said : (xs : List Own) (v : Value) (t : Txn) (p : Part) → v.what ≡ Says (body_bytes (PartOf p))
+        → held (open_own o xs) v.what ≡ Some (Writes t) → Does xs v (Some (Writes t))
     txn_said xs v t p h q e = ap (λ y. unplaced (does_entry v.what e y)) q ∙ ap (λ w. unplaced (does_entry w e (Some (Writes t)))) h
 
     -- an Add or a Remove is made as nothing, whatever its effect is to be

@@ -115,7 +115,8 @@ holds_own t i l v (Some (Switches m)) h = h
 holds_own t i l v (Some (Appoints j)) h = h
 holds_own t i l v (Some (PartOf p)) h = h
 
-own_more : (t : Setup) (p : Past) (i : Inc) (d : Did) → IsDone t p i d → ((v : Value) (b : Body) → d ≡ Made v (Some b) → InRange b) → AreOwn i (owns (life_in p i)) → AreOwn i (owns (d ∷ life_in p i))
+own_more : (t : Setup) (p : Past) (i : Inc) (d : Did) → IsDone t p i d → ((v : Value) (b : Body) → d ≡ Made v (Some b) → InRange b)
+    → AreOwn i (owns (life_in p i)) → AreOwn i (owns (d ∷ life_in p i))
 own_more t p i (Made v b) h f k = ((h.1.1.origin, h.1.1.number ∙ ap suc (last_is (life_in p i)), holds_own t i (life_in p i) v b h.1.1.rightly, fits b f), k)
   where
     fits : (x : Option Body) → ((u : Value) (y : Body) → Made v x ≡ Made u (Some y) → InRange y) → Fits x
@@ -204,7 +205,8 @@ own_past q (WritesOffline n x ∷ w) i (inr h) = own_past q w i h
 own_past q (Halts n ∷ w) i (inr h) = own_past q w i h
 own_past q (Does j d ∷ w) i (inr h) = go (inc_eq j i) (own_past q w i h)
   where
-    go : (b : Bool) → listing.IsPast (owns (life_in q i)) (owns (life_in w i)) → listing.IsPast (owns (life_in q i)) (owns (elim b [ true ↦ d ∷ life_in w i | false ↦ life_in w i ]))
+    go : (b : Bool) → listing.IsPast (owns (life_in q i)) (owns (life_in w i))
+        → listing.IsPast (owns (life_in q i)) (owns (elim b [ true ↦ d ∷ life_in w i | false ↦ life_in w i ]))
     go true k = past_more d (life_in w i) (owns (life_in q i)) k
     go false k = k
 
@@ -215,7 +217,8 @@ happened i d (x ∷ p) (inl e) = (p, inl (ap (λ y. y ∷ p) (sym e)))
 happened i d (x ∷ p) (inr h) = let r = happened i d p h in (r.0, inr r.1)
 
 -- what was made is one of the own values
-pub own_made : (o : Inc) (v : Value) (b : Option Body) (w : Past) → In (Does o (Made v b)) w → In (record { value = v; holds = b }) (owns (life_in w o))
+pub own_made : (o : Inc) (v : Value) (b : Option Body) (w : Past) → In (Does o (Made v b)) w
+    → In (record { value = v; holds = b }) (owns (life_in w o))
 own_made o v b [] h = absurd h
 own_made o v b (WritesOffline n x ∷ w) (inl e) = absurd (cc e)
 own_made o v b (WritesOffline n x ∷ w) (inr h) = own_made o v b w h
@@ -228,7 +231,8 @@ own_made o v b (Does j d ∷ w) (inl e) =
     subst (λ y. In (record { value = v; holds = b }) (owns y)) (sym (ap (λ c. elim c [ true ↦ d ∷ life_in w o | false ↦ life_in w o ]) here ∙ ap (λ y. y ∷ life_in w o) did)) (inl refl)
 own_made o v b (Does j d ∷ w) (inr h) = go (inc_eq j o) (own_made o v b w h)
   where
-    go : (c : Bool) → In (record { value = v; holds = b }) (owns (life_in w o)) → In (record { value = v; holds = b }) (owns (elim c [ true ↦ d ∷ life_in w o | false ↦ life_in w o ]))
+    go : (c : Bool) → In (record { value = v; holds = b }) (owns (life_in w o))
+        → In (record { value = v; holds = b }) (owns (elim c [ true ↦ d ∷ life_in w o | false ↦ life_in w o ]))
     go true k = in_more d (life_in w o) (record { value = v; holds = b }) k
     go false k = k
 
