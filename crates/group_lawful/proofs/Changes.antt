@@ -73,7 +73,7 @@ use Rattle.group_lawful.proofs.Asked.{LostSince, AskedAs, Keeps, IsDone, asked_a
 use Rattle.group_lawful.proofs.Begins.{call_past, sound_listed, online_up}
 use Rattle.group_lawful.proofs.Holders.{in_sessions, free_of, none_open}
 use Rattle.group_lawful.proofs.Opened.{Opened, opened, done_place, is_open, parts_asked}
-use Rattle.group_lawful.proofs.Marks.{Distinct, ready_as, made_as_many, done_as, lawful_finish, life_past, past_itself, past_tail, lived_past, sound_past}
+use Rattle.group_lawful.proofs.Marks.{ready_back, Distinct, ready_as, made_as_many, done_as, lawful_finish, life_past, past_itself, past_tail, lived_past, sound_past}
 use Rattle.group_lawful.proofs.Known.{executed_stays, certs_stay, sets_past, empty_before, filter_in, is_pending, sound_took}
 use Rattle.group_lawful.proofs.Given.{cert_place}
 use Rattle.group_lawful.proofs.States.{fallen_is, has_fallen, stand, StateAs, stands_so, ready_by, shape_of}
@@ -300,7 +300,7 @@ module _ (t : Setup) (i : Inc) (base : List law.Placed) where
   abbrev MomentOf : Life → Type 0
   MomentOf l = (Lived t i l × AlwaysSound t i base l) × HasSets l
 
-  -- the rows of what the history has executed are those of its life
+  -- the rows of what a history that is ready has executed are those of its life
   abbrev pub SameRows : Life → Type 0
   SameRows l = (x : Item) → row_of l (executed l) x ≡ rows_now t (life_of base l) x
 
@@ -430,7 +430,7 @@ module _ (t : Setup) (i : Inc) (base : List law.Placed) where
   no_holder None b h = (refl, h)
   no_holder (Some x) b h = absurd (some_none h)
 
-  module _ (l : Life) (s : ℕ) (ch : Change) (h : left.IsChanged i l s ch) (m : MomentOf l) (rows : SameRows l) (begun : 1 < length l) (settled : left.is_settled i l ≡ true) where
+  module _ (l : Life) (s : ℕ) (ch : Change) (h : left.IsChanged i l s ch) (m : MomentOf l) (rows : IsReady t i l → SameRows l) (begun : 1 < length l) (settled : left.is_settled i l ≡ true) where
     k : Lived t i l
     k = m.0.0
 
@@ -592,7 +592,7 @@ module _ (t : Setup) (i : Inc) (base : List law.Placed) where
       changes = changes l s;
       is_open = open_now.has;
       is_ready = is_ready;
-      need = ap (fits ch.what) (changed_as (changes l s) (rows_now t (life_of base l)) ch.item ∙ ap (λ y. changed_row ch.item y (changes l s)) (sym (rows ch.item))) ∙ h.fits;
+      need = ap (fits ch.what) (changed_as (changes l s) (rows_now t (life_of base l)) ch.item ∙ ap (λ y. changed_row ch.item y (changes l s)) (sym (rows (ready_back t i base l is_ready) ch.item))) ∙ h.fits;
       no_place = no_place;
       no_open = no_open;
       no_asked = no_asked;

@@ -2,7 +2,7 @@
 use Rattle.std.proofs.Common.{◌≡◌, ◌⊎◌, inl, inr, ℕ, suc, ◌<◌, Bool, true, false, cond, not, ◌&&◌, ◌||◌, Option, Some, None, List, [], ◌∷◌, ◌++◌, refl, sym, ap, subst, ◌∙◌, length, eqb, eq-eqb}
 use Rattle.std.specs.Prelude.{◌==◌}
 use Rattle.std.specs.List.{list_any}
-use Rattle.std.proofs.lemmas.Bool.{false≢true, cases_Bool, or_left, or_right, eqb-true}
+use Rattle.std.proofs.lemmas.Bool.{or_cases, false≢true, cases_Bool, or_left, or_right, eqb-true}
 use Rattle.gr_ids.specs.Names.{inc_eq}
 use Rattle.gr_ids.specs.declared.names.Inc.{Inc}
 use Rattle.gr_ids.specs.declared.names.Gtid.{Gtid}
@@ -72,48 +72,51 @@ sound_past t i base p (d ∷ l) (inr h) k = sound_past t i base p l h k.1
 module _ (t : Setup) (i : Inc) (base : List law.Placed) where
   -- ---- ready
 
-  given_as : (l : Life) → has_give l ≡ true → list_any lives.is_give (life_of base l) ≡ true
-  given_as [] h = absurd (false≢true h)
-  given_as (Restores y cs ∷ l) h = refl
-  given_as (Made v y ∷ l) h = made y (given_as l h)
+  given_as : (l : Life) → list_any lives.is_give (life_of base l) ≡ has_give l
+  given_as [] = refl
+  given_as (Restores y cs ∷ l) = refl
+  given_as (Made v y ∷ l) = made y ∙ given_as l
     where
-      made : (y : Option Body) → list_any lives.is_give (life_of base l) ≡ true → list_any lives.is_give (life_of base (Made v y ∷ l)) ≡ true
-      made (Some (Writes x)) k = k
-      made y k = k
-  given_as (Answered u a ∷ l) h = answered a (given_as l h)
+      made : (y : Option Body) → list_any lives.is_give (life_of base (Made v y ∷ l)) ≡ list_any lives.is_give (life_of base l)
+      made (Some (Writes x)) = refl
+      made y = refl
+  given_as (Answered u a ∷ l) = answered a ∙ given_as l
     where
-      answered : (a : Answer) → list_any lives.is_give (life_of base l) ≡ true → list_any lives.is_give (life_of base (Answered u a ∷ l)) ≡ true
-      answered (CommittedAs g) k = k
-      answered a k = k
-  given_as (Is x c ∷ l) h = is x (given_as l h)
+      answered : (a : Answer) → list_any lives.is_give (life_of base (Answered u a ∷ l)) ≡ list_any lives.is_give (life_of base l)
+      answered (CommittedAs g) = refl
+      answered a = refl
+  given_as (Is x c ∷ l) = is x ∙ given_as l
     where
-      is : (x : MemberState) → list_any lives.is_give (life_of base l) ≡ true → list_any lives.is_give (life_of base (Is x c ∷ l)) ≡ true
-      is Error k = k
-      is x k = k
-  given_as (Came (Hears m) ∷ l) h = given_as l h
-  given_as (Came Ticks ∷ l) h = given_as l h
-  given_as (Came (Works z y) ∷ l) h = given_as l h
-  given_as (Came (Calls z y) ∷ l) h = given_as l h
-  given_as (Came (Operates z) ∷ l) h = given_as l h
-  given_as (Skips u v ∷ l) h = given_as l h
-  given_as (Gave n m ∷ l) h = given_as l h
-  given_as (Replied r ∷ l) h = given_as l h
-  given_as (AskFails ∷ l) h = given_as l h
-  given_as (Founds ∷ l) h = given_as l h
-  given_as (Enters z ∷ l) h = given_as l h
-  given_as (Starts x ∷ l) h = given_as l h
-  given_as (Took z ∷ l) h = given_as l h
-  given_as (Committed y ∷ l) h = given_as l h
-  given_as (Done p ∷ l) h = given_as l h
-  given_as (Called u v w ∷ l) h = given_as l h
-  given_as (Begun u y c ∷ l) h = given_as l h
-  given_as (Changed u c ∷ l) h = given_as l h
-  given_as (Ends u ∷ l) h = given_as l h
-  given_as (AsksCommit u y ∷ l) h = given_as l h
+      is : (x : MemberState) → list_any lives.is_give (life_of base (Is x c ∷ l)) ≡ list_any lives.is_give (life_of base l)
+      is Error = refl
+      is x = refl
+  given_as (Came (Hears m) ∷ l) = given_as l
+  given_as (Came Ticks ∷ l) = given_as l
+  given_as (Came (Works z y) ∷ l) = given_as l
+  given_as (Came (Calls z y) ∷ l) = given_as l
+  given_as (Came (Operates z) ∷ l) = given_as l
+  given_as (Skips u v ∷ l) = given_as l
+  given_as (Gave n m ∷ l) = given_as l
+  given_as (Replied r ∷ l) = given_as l
+  given_as (AskFails ∷ l) = given_as l
+  given_as (Founds ∷ l) = given_as l
+  given_as (Enters z ∷ l) = given_as l
+  given_as (Starts x ∷ l) = given_as l
+  given_as (Took z ∷ l) = given_as l
+  given_as (Committed y ∷ l) = given_as l
+  given_as (Done p ∷ l) = given_as l
+  given_as (Called u v w ∷ l) = given_as l
+  given_as (Begun u y c ∷ l) = given_as l
+  given_as (Changed u c ∷ l) = given_as l
+  given_as (Ends u ∷ l) = given_as l
+  given_as (AsksCommit u y ∷ l) = given_as l
 
   pub ready_as : (l : Life) → IsReady t i l → lives.ready t i (life_of base l) ≡ true
   ready_as l (inl f) = or_left (lives.founder t i) (list_any lives.is_give (life_of base l)) f
-  ready_as l (inr g) = or_right (lives.founder t i) (list_any lives.is_give (life_of base l)) (given_as l g)
+  ready_as l (inr g) = or_right (lives.founder t i) (list_any lives.is_give (life_of base l)) (given_as l ∙ g)
+
+  pub ready_back : (l : Life) → lives.ready t i (life_of base l) ≡ true → IsReady t i l
+  ready_back l h = elim (or_cases (lives.founder t i) (list_any lives.is_give (life_of base l)) h) [ inl f ↦ inl f | inr g ↦ inr (sym (given_as l) ∙ g) ]
 
   -- ---- own values
 
