@@ -219,6 +219,14 @@ descends_apart : (cs : List Cert) → Descends cs → NoTwice cs
 descends_apart [] h = tt
 descends_apart (c ∷ cs) h = ((λ y m e. let z = h.0 y m in absurd (omega (arith, z, e))), descends_apart cs h.1)
 
+-- what a history knows stands once, by place
+pub ascends_known : (t : Setup) (k : List law.Placed) (i : Inc) (l : Life) → LifeKnows t k i l → Ascends (known l)
+ascends_known t k i l h =
+    all_ascends (all_in [] (stored l).committed) (certs l) (all_ascends [] (stored l).committed tt h.stock.twice (λ c m y n. absurd n)) (descends_apart (certs l) h.descends) (λ c m. unlike c m)
+  where
+    unlike : (c : Cert) → In c (certs l) → Apart c (all_in [] (stored l).committed)
+    unlike c m y n e = elim (in_all [] (stored l).committed y n) [ inl z ↦ absurd z | inr z ↦ h.apart c m y z e ]
+
 -- ---- the GTIDs of transactions
 
 gtids_canonical : (cs : List Cert) → ((c : Cert) → In c cs → IsUuid c.gtid.source × IsNumber c.gtid.number) → IsCanonical (gtids_of cs)
@@ -677,17 +685,8 @@ module _ (t : Setup) (setup : IsSetup t) (w : Past) (x : OneLogOf t w) (done : A
               inl (as_given c.0, reverse_in t i [] (as_given c.0) cs (subst (In (as_given c.0)) (sym told) there), record { place = c.2.place; origin = c.2.origin; number = inr refl; gtid = c.2.gtid; txn = c.2.txn }))
         ]
 
-    -- each that the giver knew stands once, by place
-    known_ascends : Ascends (known (life_in f.sent f.giver))
-    known_ascends = all_ascends (all_in [] (stored (life_in f.sent f.giver)).committed) (certs (life_in f.sent f.giver))
-        (all_ascends [] (stored (life_in f.sent f.giver)).committed tt giver_knows.stock.twice (λ c m y n. absurd n))
-        (descends_apart (certs (life_in f.sent f.giver)) giver_knows.descends) (λ c m. unlike c m)
-      where
-        unlike : (c : Cert) → In c (certs (life_in f.sent f.giver)) → Apart c (all_in [] (stored (life_in f.sent f.giver)).committed)
-        unlike c m y n e = elim (in_all [] (stored (life_in f.sent f.giver)).committed y n) [ inl z ↦ absurd z | inr z ↦ giver_knows.apart c m y z e ]
-
     lacked_ascends : Ascends lacked
-    lacked_ascends = ascends_filter (λ (c : Cert). not (has (executed (life_in f.asked i)) c.gtid)) up (ascends_filter (λ (c : Cert). nat_le c.place f.add.place) (known (life_in f.sent f.giver)) known_ascends)
+    lacked_ascends = ascends_filter (λ (c : Cert). not (has (executed (life_in f.asked i)) c.gtid)) up (ascends_filter (λ (c : Cert). nat_le c.place f.add.place) (known (life_in f.sent f.giver)) (ascends_known t list f.giver (life_in f.sent f.giver) giver_knows))
 
     own_known : LifeKnows t list i (life_in p i)
     own_known = (before p (past_self p)).lives i

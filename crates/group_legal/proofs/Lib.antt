@@ -25,3 +25,4 @@ pub mod CutParts
 pub mod OwnValues
 pub mod OwnParts
 pub mod Origins
+pub mod RowsAgree
