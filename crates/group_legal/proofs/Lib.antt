@@ -26,3 +26,4 @@ pub mod OwnValues
 pub mod OwnParts
 pub mod Origins
 pub mod RowsAgree
+pub mod Joined

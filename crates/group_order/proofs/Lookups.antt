@@ -143,7 +143,7 @@ read_kept r v p b h = go (is_kept r v) h
     go false q = absurd (cc q)
 
 -- the reading with a kept value has its place
-kept_reading : (t : Setup) (log : List Value) (v : Value) (p : ℕ) (b : Bool) → KeptAt p b ≡ became (reading_of t log) v → (reading_of t (v ∷ log)).place ≡ p
+pub kept_reading : (t : Setup) (log : List Value) (v : Value) (p : ℕ) (b : Bool) → KeptAt p b ≡ became (reading_of t log) v → (reading_of t (v ∷ log)).place ≡ p
 kept_reading t log v p b h = sym (listed_place t (v ∷ log)) ∙ ap taken (ap (λ y. listed_by t (listed t log) (suc (length log)) v y) (sym h))
 
 place_in : (t : Setup) (log : List Value) (s : ℕ) (v : Value) (p : ℕ) (b : Bool) → value_at log s ≡ Some v → KeptAt p b ≡ became (reading_of t (before_slot log s)) v → p ≤ (reading_of t log).place
