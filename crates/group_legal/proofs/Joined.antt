@@ -122,3 +122,6 @@ module _ (t : Setup) (w : Past) (x : OneLogOf t w) (q : Past) (i : Inc) (u : Wel
     joins = joins;
     inc = j.inc;
   }
+
+  pub place_within : u.place ≤ length (list_of t x.log)
+  place_within = subst (λ n. n ≤ length (list_of t x.log)) (sym (place_is ∙ at_place)) stands.0

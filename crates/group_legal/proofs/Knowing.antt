@@ -1,5 +1,5 @@
 -- What each history knows of the list: it has each certified transaction up to its place, or has executed it; and so has each server what it executed.
-use Rattle.std.proofs.Common.{◌≡◌, ◌⊎◌, inl, inr, ℕ, suc, ◌≤◌, ◌<◌, Bool, true, false, not, ◌&&◌, ◌||◌, Option, Some, None, List, [], ◌∷◌, ◌++◌, refl, sym, ap, subst, ◌∙◌, length, arith}
+use Rattle.std.proofs.Common.{◌≡◌, ◌⊎◌, inl, inr, ℕ, suc, ◌≤◌, ◌<◌, Bool, true, false, not, ◌&&◌, ◌||◌, Option, Some, None, List, [], ◌∷◌, ◌++◌, refl, sym, ap, subst, ◌∙◌, length, eq-eqb, arith}
 use Rattle.std.specs.Prelude.{filter, map, reverse, nat_le, ◌==◌}
 use Rattle.std.proofs.lemmas.List.{reverse-append}
 use Rattle.std.proofs.lemmas.Bool.{false≢true, cases_Bool, or_cases, or_right, not-true, leb-true, le-leb}
@@ -22,10 +22,10 @@ use Rattle.group_rules.specs.Names.{Give}
 use Rattle.group_rules.specs.declared.marks.Effect.{Effect}
 use Rattle.group_rules.specs.declared.marks.Effect.TheVariants.{Plain, Void, Unread, Positive, Conflict}
 use Rattle.group_rules.specs.Events.{Did, Founds, Starts, Came, Made, Took, Skips, Done, Committed, Is, Gave, Answered, Begun, Changed, Replied, Called, AsksCommit, Ends, Enters, Restores, AskFails, Hears, Ticks, Works, Calls, Operates, Life, Setup, Entry, Stored, OfflineWrite, Cert}
-use Rattle.group_rules.specs.Life.{state, is_recovering, executed, view, taken, entered, has_give, cert_by, cert_of, certs, stored}
+use Rattle.group_rules.specs.Life.{state, is_recovering, executed, view, taken, entered, has_give, entry_at, cert_by, cert_of, certs, stored}
 use Rattle.group_rules.specs.View.{View}
 use Rattle.group_rules.specs.Rows.{all_in, known}
-use Rattle.group_rules.specs.Recovery.{certs_given, given_of, gtids_of}
+use Rattle.group_rules.specs.Recovery.{add_place, certs_given, given_of, gtids_of}
 use Rattle.group_rules.specs.Legal.{IsPast}
 use Rattle.group_rules.specs.World.{Happening, Past, Does, Writes, Halts, life_in, nothing_stored, committed_of}
 use Rattle.group_bridge.specs.Left as left
@@ -88,19 +88,24 @@ past_lives q (Does j d ∷ p) i (inr h) = go (inc_eq j i) (past_lives q p i h)
 -- ---- what is known
 
 -- of the list k, by one that executed this, holds these as certified, was started with this and is at this place
-pub record KnowsBy (t : Setup) (k : List law.Placed) (e : Gtids) (cs : List Cert) (x : Stored) (n : ℕ) (ready : Type 0) (commits : Type 0) : Type 0 where
+pub record KnowsBy (t : Setup) (k : List law.Placed) (e : Gtids) (cs : List Cert) (x : Stored) (n : ℕ) (there : Cert → Type 0) (ready : Type 0) (commits : Type 0) : Type 0 where
   pub complete : (d : law.Cert) → Mem d (law.certified t k) → has e d.gtid ≡ true → (has x.executed d.gtid ≡ true) ⊎ ((c : Cert) × In c cs × Alike c d)
   pub reached : ready → (d : law.Cert) → Mem d (law.certified t k) → d.place ≤ n → ((c : Cert) × In c cs × Alike c d) ⊎ (has e d.gtid ≡ true)
   pub descends : Descends cs
   pub below : (c : Cert) → In c cs → c.place ≤ n
   pub had : ready → (c : Cert) → In c x.committed → c.place ≤ n
   pub apart : (c : Cert) → In c cs → Apart c x.committed
+  pub entries : (c : Cert) → In c cs → there c
   pub once : commits
   pub stays : (g : Gtid) → has x.executed g ≡ true → has e g ≡ true
   pub stock : StockOf t k x
 
+-- it was given up to its Add, or the history took its entry
+abbrev pub IsThere : Life → Cert → Type 0
+IsThere l c = (c.place ≤ add_place (entered l)) ⊎ ((e : Entry) × (entry_at l c.place ≡ Some e))
+
 abbrev pub LifeKnows : Setup → List law.Placed → Inc → Life → Type 0
-LifeKnows t k i l = KnowsBy t k (executed l) (certs l) (stored l) (taken l) (IsReady t i l) (CommitsOnce l)
+LifeKnows t k i l = KnowsBy t k (executed l) (certs l) (stored l) (taken l) (IsThere l) (IsReady t i l) (CommitsOnce l)
 
 pub record KnownAt (t : Setup) (k : List law.Placed) (p : Past) : Type 0 where
   pub lives : (i : Inc) → LifeKnows t k i (life_in p i)
@@ -118,6 +123,7 @@ nothing_known t k i = record {
   below = λ c m. absurd m;
   had = λ r c m. absurd m;
   apart = λ c m. absurd m;
+  entries = λ c m. absurd m;
   once = tt;
   stays = λ g e. e;
   stock = no_stock t k;
@@ -344,15 +350,15 @@ module _ (t : Setup) (setup : IsSetup t) (w : Past) (x : OneLogOf t w) (done : A
   abbrev KnownBefore : Past → Type 0
   KnownBefore p = (q : Past) → IsPast q p → KnownAt t list q
 
-  in_w : (p : Past) → IsPast p v → IsPast p w
+  pub in_w : (p : Past) → IsPast p v → IsPast p w
   in_w p k = past_of v p w v_past k
 
-  distinct : (c d : law.Cert) → Mem c (law.certified t list) → Mem d (law.certified t list) → c.gtid ≡ d.gtid → c ≡ d
+  pub distinct : (c d : law.Cert) → Mem c (law.certified t list) → Mem d (law.certified t list) → c.gtid ≡ d.gtid → c ≡ d
   distinct c d m n =
       let e : list ≡ decided.scan t (law.values list) = scanned t [] x.log in
       gtids_distinct t setup.block (law.values list) c d (subst (λ y. Mem c (law.certified t y)) e m) (subst (λ y. Mem d (law.certified t y)) e n)
 
-  everywhere : (p : Past) → IsPast p v → CarriedAt (Known t list) p
+  pub everywhere : (p : Past) → IsPast p v → CarriedAt (Known t list) p
   everywhere p k = known_at t setup w x done spelled small v v_past judges p k
 
   -- ---- sets
@@ -367,7 +373,7 @@ module _ (t : Setup) (setup : IsSetup t) (w : Past) (x : OneLogOf t w) (done : A
     written = small.written;
   }
 
-  sets : (p : Past) → IsPast p w → SetsAt p
+  pub sets : (p : Past) → IsPast p w → SetsAt p
   sets p k = sets_at t w servers numbers p k (did_past (IsDone t) w p done k) (written_past (IsWritten t) w p k servers.written)
 
   -- ---- an entry
@@ -383,6 +389,7 @@ module _ (t : Setup) (setup : IsSetup t) (w : Past) (x : OneLogOf t w) (done : A
       | inl n ↦ (λ y u q. let a = new c n in let b = h.had is_ready y u in omega (arith, a, b, q, place))
       | inr n ↦ h.apart c n
     ];
+    entries = λ c m. entries c m (e.place == c.place) refl;
     once = h.once;
     stays = h.stays;
     stock = h.stock;
@@ -408,6 +415,17 @@ module _ (t : Setup) (setup : IsSetup t) (w : Past) (x : OneLogOf t w) (done : A
 
       long : length marked ≡ taken l
       long = places_agree t base l both.0.taking.1
+
+      entries : (c : Cert) → In c (cert_of e ++ certs (life_in p i)) → (b : Bool) → (e.place == c.place) ≡ b
+          → (c.place ≤ add_place (entered (life_in p i))) ⊎ ((y : Entry) × (elim b [ true ↦ Some e | false ↦ entry_at (life_in p i) c.place ] ≡ Some y))
+      entries c m true q = inr (e, refl)
+      entries c m false q = elim (in_either c (cert_of e) (certs (life_in p i)) m) [
+        | inl n ↦ absurd (false≢true (sym q ∙ eq-eqb e.place c.place (sym (new c n))))
+        | inr n ↦ h.entries c n
+      ]
+        where
+          new : (c : Cert) → In c (cert_of e) → c.place ≡ e.place
+          new c m = sym (ap (λ (y : Cert). y.place) (given_gtid e c m).is_it)
 
       new : (c : Cert) → In c (cert_of e) → c.place ≡ e.place
       new c m = sym (ap (λ (y : Cert). y.place) (given_gtid e c m).is_it)
@@ -435,6 +453,7 @@ module _ (t : Setup) (setup : IsSetup t) (w : Past) (x : OneLogOf t w) (done : A
     below = h.below;
     had = h.had;
     apart = h.apart;
+    entries = h.entries;
     once = ((ap (has (executed l)) (sym y.is_it) ∙ new, (y.cert, here, y.is_it)), h.once);
     stays = λ u z. grows u (h.stays u z);
     stock = h.stock;
@@ -490,6 +509,7 @@ module _ (t : Setup) (setup : IsSetup t) (w : Past) (x : OneLogOf t w) (done : A
     below = λ c m. absurd m;
     had = λ r. absurd (unready_yet r);
     apart = λ c m. absurd m;
+    entries = λ c m. absurd m;
     once = tt;
     stays = λ g e. e;
     stock = subst (StockOf t list) (sym h.3) (b.stocks i.server);
@@ -508,6 +528,7 @@ module _ (t : Setup) (setup : IsSetup t) (w : Past) (x : OneLogOf t w) (done : A
     below = λ c m. absurd (subst (In c) none m);
     had = λ r. absurd (unready_yet r);
     apart = k.apart;
+    entries = λ c m. absurd (subst (In c) none m);
     once = k.once;
     stays = k.stays;
     stock = k.stock;
@@ -583,7 +604,7 @@ module _ (t : Setup) (setup : IsSetup t) (w : Past) (x : OneLogOf t w) (done : A
     abbrev l : Life
     l = life_in p i
 
-    below_v : IsPast p v
+    pub below_v : IsPast p v
     below_v = past_of (Does i (Restores g cs) ∷ p) p v k (inr (past_self p))
 
     all_p : AllDid (IsDone t) p
@@ -691,9 +712,9 @@ module _ (t : Setup) (setup : IsSetup t) (w : Past) (x : OneLogOf t w) (done : A
     own_known : LifeKnows t list i (life_in p i)
     own_known = (before p (past_self p)).lives i
 
-    -- all that it has committed was certified before its Add
-    had : (c : Cert) → In c (stored (life_in p i)).committed → c.place ≤ taken (life_in p i)
-    had c m = go (of_gtids up c.gtid numbered certified)
+    -- all that it has executed was certified before its Add
+    pub certified_before : (u : Gtid) → has (executed (life_in p i)) u ≡ true → (d : law.Cert) × Mem d (law.certified t list) × (d.place ≤ f.add.place) × (d.gtid ≡ u)
+    certified_before u h = go (of_gtids up u numbered certified)
       where
         numbered : (y : Cert) → In y up → IsUuid y.gtid.source × IsNumber y.gtid.number
         numbered y n = (up_has y n).0.0.0
@@ -701,20 +722,35 @@ module _ (t : Setup) (setup : IsSetup t) (w : Past) (x : OneLogOf t w) (done : A
         is_up : g.certified ≡ gtids_of up
         is_up = ap (λ (y : Give). y.certified) f.give
 
-        certified : has (gtids_of up) c.gtid ≡ true
-        certified = none_extra (executed (life_in p i)) (gtids_of up) c.gtid (canonical (life_in p i) ((sets p (in_w p below_v)).lives i)) (gtids_canonical up numbered)
-            (ap (minus (executed (life_in p i))) (sym is_up) ∙ f.no_extra) (own_known.stays c.gtid (own_known.stock.done c m))
+        certified : has (gtids_of up) u ≡ true
+        certified = none_extra (executed (life_in p i)) (gtids_of up) u (canonical (life_in p i) ((sets p (in_w p below_v)).lives i)) (gtids_canonical up numbered)
+            (ap (minus (executed (life_in p i))) (sym is_up) ∙ f.no_extra) h
 
-        go : (y : Cert) × In y up × (y.gtid ≡ c.gtid) → c.place ≤ taken (life_in p i)
+        go : (y : Cert) × In y up × (y.gtid ≡ u) → (d : law.Cert) × Mem d (law.certified t list) × (d.place ≤ f.add.place) × (d.gtid ≡ u)
         go y =
             let a = up_has y.0 y.1 in
             let b = a.0.1 in
-            let d = ((everywhere p below_v).had i c m).1 in
-            let same : b.0 ≡ d.0 = distinct b.0 d.0 b.1 d.1 (sym b.2.gtid ∙ y.2 ∙ d.2.gtid) in
-            let e : (y.0).place ≡ c.place = b.2.place ∙ ap (λ (u : law.Cert). u.place) same ∙ sym d.2.place in
             let n = a.1 in
-            let z = place in
-            omega (arith, e, n, z)
+            let e = b.2.place in
+            (b.0, b.1, omega (arith, e, n), sym b.2.gtid ∙ y.2)
+
+    had : (c : Cert) → In c (stored (life_in p i)).committed → c.place ≤ taken (life_in p i)
+    had c m =
+        let r = certified_before c.gtid (own_known.stays c.gtid (own_known.stock.done c m)) in
+        let d = ((everywhere p below_v).had i c m).1 in
+        let same : r.0 ≡ d.0 = distinct r.0 d.0 r.1 d.1 (r.3 ∙ d.2.gtid) in
+        let e : c.place ≡ (r.0).place = d.2.place ∙ ap (λ (u : law.Cert). u.place) (sym same) in
+        let n = r.2 in
+        let z = place in
+        omega (arith, e, n, z)
+
+    -- the giver goes on
+    pub giver_here : IsReady t f.giver (life_in p f.giver) × (f.add.place ≤ taken (life_in p f.giver))
+    giver_here =
+        let z = went f.sent p f.giver f.sent_before below_v all_p reach.0 in
+        let a = far in
+        let b = z.1 in
+        (z.0, omega (arith, a, b))
 
     -- and isn't given again
     apart : (c : Cert) → In c (reverse cs) → Apart c (stored (life_in p i)).committed
@@ -747,6 +783,11 @@ module _ (t : Setup) (setup : IsSetup t) (w : Past) (x : OneLogOf t w) (done : A
           omega (arith, n, q, z));
       had = λ r. had;
       apart = apart;
+      entries = λ c m. (let r = given_one c m in
+          let n = (up_has r.0 (lacked_has r.0 r.1).0).1 in
+          let q : (r.0).place ≡ c.place = ap (λ (u : Cert). u.place) r.2 in
+          let z : f.add.place ≡ add_place (entered (life_in p i)) = f.place ∙ sym (ap add_place f.entered) in
+          inl (omega (arith, n, q, z)));
       once = own_known.once;
       stays = own_known.stays;
       stock = own_known.stock;
