@@ -775,12 +775,11 @@ module _ (t : Setup) (i : Inc) (base : List law.Placed) where
       owed true h = (and_parts (not (has_sent_prepared l c.gtid)) (is_prepared l i c) (and_parts (has_inc (required t l c) i) (not (has_sent_prepared l c.gtid) && is_prepared l i c) h).1).1
 
   -- what its value is made as, after the commit of its session was asked if it is of a transaction
-  pub MadeRightly : Life → Value → Option Body → Type 0
+  abbrev pub MadeRightly : Life → Value → Option Body → Type 0
   MadeRightly l v (Some (Writes x)) = LawfulMade t i (lives.Asked (asking l) ∷ life_of base l) (made_as v (Some (Writes x)))
   MadeRightly l v b = LawfulMade t i (life_of base l) (made_as v b)
 
   pub lawful_made : (l : Life) (v : Value) (b : Option Body) → left.IsMade t i l v b → MomentOf l → MadeRightly l v b
-  unfolding MadeRightly
   lawful_made l v (Some (Writes x)) h m = record { own = h.origin; next = h.number ∙ ap suc (sym (made_as_many t i base l)); body = made_txn l v x m h.rightly }
   lawful_made l v None h m = record { own = h.origin; next = h.number ∙ ap suc (sym (made_as_many t i base l)); body = tt }
   lawful_made l v (Some (Executed e)) h m = record { own = h.origin; next = h.number ∙ ap suc (sym (made_as_many t i base l)); body = now_is l e m h.rightly.1 }

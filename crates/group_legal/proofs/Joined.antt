@@ -125,3 +125,6 @@ module _ (t : Setup) (w : Past) (x : OneLogOf t w) (q : Past) (i : Inc) (u : Wel
 
   pub place_within : u.place ≤ length (list_of t x.log)
   place_within = subst (λ n. n ≤ length (list_of t x.log)) (sym (place_is ∙ at_place)) stands.0
+
+  pub place_positive : 1 ≤ u.place
+  place_positive = let e = place_is ∙ at_place in omega (arith, e)

@@ -366,7 +366,7 @@ module _ (t : Setup) (setup : IsSetup t) (w : Past) (x : OneLogOf t w) (done : A
   commit_cert : (p : Past) (i : Inc) (g : Gtid) → (h : left.IsCommitted t i (life_in p i) g) → In h.cert (certs (life_in p i))
   commit_cert p i g h = subst (In h.cert) (sym h.certs) (in_pending h.begin h.cert (subst (In h.cert) (sym h.pending) (in_second h.cert h.first (h.cert ∷ h.rest) (inl refl)))).0
 
-  numbers : HasNumbers t w
+  pub numbers : HasNumbers t w
   numbers = record {
     committed = λ p i g k. (let h : IsDone t p i (Committed g) = done_at (IsDone t) w p i (Committed g) done k in
         subst (λ (y : Gtid). IsUuid y.source × IsNumber y.number) h.1.1.is_it ((fine_at t setup w x done spelled small p (past_of (Does i (Committed g) ∷ p) p w k (inr (past_self p)))).lives i h.1.1.cert (commit_cert p i g h.1.1)).0);
@@ -600,18 +600,15 @@ module _ (t : Setup) (setup : IsSetup t) (w : Past) (x : OneLogOf t w) (done : A
 
   -- ---- a Give
 
-  module _ (p : Past) (i : Inc) (g : Give) (cs : List Cert) (k : IsPast (Does i (Restores g cs) ∷ p) v) (before : KnownBefore p) where
+  module _ (p : Past) (i : Inc) (g : Give) (cs : List Cert) (k : IsPast (Does i (Restores g cs) ∷ p) w) (below_v : IsPast p v) (before : KnownBefore p) where
     abbrev l : Life
     l = life_in p i
-
-    pub below_v : IsPast p v
-    below_v = past_of (Does i (Restores g cs) ∷ p) p v k (inr (past_self p))
 
     all_p : AllDid (IsDone t) p
     all_p = did_past (IsDone t) w p done (in_w p below_v)
 
     abbrev f : GivenBy t p i g cs
-    f = x.given p i g cs (in_w (Does i (Restores g cs) ∷ p) k)
+    f = x.given p i g cs k
 
     sent_v : IsPast f.sent v
     sent_v = past_of p f.sent v below_v f.sent_before
@@ -801,7 +798,7 @@ module _ (t : Setup) (setup : IsSetup t) (w : Past) (x : OneLogOf t w) (done : A
   did_known p i (Took e) k h all b = took_known p i e k ((b p (past_self p)).lives i)
   did_known p i (Committed g) k h all b = committed_known p i g k (past_of (Does i (Committed g) ∷ p) p v k (inr (past_self p))) ((b p (past_self p)).lives i)
   did_known p i (Enters u) k h all b = enters_known p i u h all ((b p (past_self p)).lives i)
-  did_known p i (Restores g cs) k h all b = restores_known p i g cs k b
+  did_known p i (Restores g cs) k h all b = restores_known p i g cs (in_w (Does i (Restores g cs) ∷ p) k) (past_of (Does i (Restores g cs) ∷ p) p v k (inr (past_self p))) b
   did_known p i (Came (Hears n)) k h all b = (b p (past_self p)).lives i
   did_known p i (Came Ticks) k h all b = (b p (past_self p)).lives i
   did_known p i (Came (Works z y)) k h all b = (b p (past_self p)).lives i

@@ -27,3 +27,4 @@ pub mod OwnParts
 pub mod Origins
 pub mod RowsAgree
 pub mod Joined
+pub mod Runs

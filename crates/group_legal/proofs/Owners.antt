@@ -130,7 +130,7 @@ module _ (base : Inc → List law.Placed) where
 
   module _ (t : Setup) where
     -- of an incarnation's own marks the last one says that it runs; where there are none, what was before
-    runs_here : (j : Inc) (ds : List lives.Did) (v : run.World) → run.runs t v j ≡ true → run.runs t (all_did j ds ++ v) j ≡ true
+    pub runs_here : (j : Inc) (ds : List lives.Did) (v : run.World) → run.runs t v j ≡ true → run.runs t (all_did j ds ++ v) j ≡ true
     runs_here j [] v h = h
     runs_here j (d ∷ ds) v h = ap (λ b. cond b (inc_eq j j) (run.runs t (all_did j ds ++ v) j)) (eq-eqb j.server j.server refl) ∙ inc_same j
 
