@@ -36,7 +36,7 @@ use Rattle.group_laws.proofs.Acks.{upto_is_past, length_upto, values_past}
 use Rattle.group_lives.specs.Lives.{does_entry, placed}
 use Rattle.group_lives.specs.Sound.{IsNew, AddsNew}
 use Rattle.group_legal.specs.Bases.{list_of}
-use Rattle.group_legal.proofs.Founders.{next_place}
+use Rattle.group_legal.proofs.EntryEffects.{next_place}
 use Rattle.group_legal.proofs.Newcomers.{adds_new}
 use Rattle.group_legal.proofs.Prefix.{StandsAt, entry_stands}
 use Rattle.group_legal.proofs.Takers.{adds_past}

@@ -26,7 +26,7 @@ use Rattle.group_laws.specs.Lawful.{upto}
 use Rattle.group_lives.specs.Lives.{does_entry, placed}
 use Rattle.group_lawful.specs.Knows.{EndsWithAdd}
 use Rattle.group_legal.specs.Bases.{list_of}
-use Rattle.group_legal.proofs.Founders.{next_place}
+use Rattle.group_legal.proofs.EntryEffects.{next_place}
 use Rattle.group_legal.proofs.Prefix.{StandsAt, entry_stands}
 use Rattle.group_legal.proofs.Points.{did_here}
 

@@ -1,7 +1,7 @@
 pub mod Scanned
 pub mod Newcomers
 pub mod Numbered
-pub mod Founders
+pub mod EntryEffects
 pub mod Prefix
 pub mod Told
 pub mod Takers

@@ -41,7 +41,7 @@ use Rattle.group_lives.proofs.Taking.{places_agree}
 use Rattle.group_lawful.specs.Knows.{Alike}
 use Rattle.group_legal.specs.Bases.{list_of, base_in, TakesOf, JudgesAs}
 use Rattle.group_legal.specs.Ranges.{HasSmallNumbers}
-use Rattle.group_legal.proofs.Founders.{entry_takes}
+use Rattle.group_legal.proofs.EntryEffects.{entry_takes}
 use Rattle.group_legal.proofs.Told.{Spelled, body_read}
 use Rattle.group_legal.proofs.Stocks.{Readable}
 use Rattle.group_legal.proofs.Carried.{as_given, CarriedAt, carried}

@@ -77,7 +77,7 @@ use Rattle.group_legal.specs.Bases.{list_of, given_to, base_in, TakesOf, JudgesA
 use Rattle.group_legal.specs.LawRun.{MomentOf, SameRows, IsLawRun}
 use Rattle.group_legal.specs.Ranges.{HasSmallNumbers}
 use Rattle.group_legal.specs.OwnRanges.{ReadBack, MadeInRange}
-use Rattle.group_legal.proofs.Founders.{entry_takes}
+use Rattle.group_legal.proofs.EntryEffects.{entry_takes}
 use Rattle.group_legal.proofs.Prefix.{upto_zero}
 use Rattle.group_legal.proofs.Scanned.{scanned}
 use Rattle.group_legal.proofs.Newcomers.{adds_new}

@@ -46,7 +46,7 @@ use Rattle.group_lives.specs.Given.{GivenAs}
 use Rattle.group_lives.specs.Sound.{IsEffect, IsTaking, HasToldSets, AddsNew}
 use Rattle.group_lives.proofs.Taking.{skip_answer, skip_state, skip_made, views_agree}
 use Rattle.group_legal.specs.Bases.{list_of, given_to, base_in, TakesOf, JudgesAs}
-use Rattle.group_legal.proofs.Founders.{entry_takes, next_place}
+use Rattle.group_legal.proofs.EntryEffects.{entry_takes, next_place}
 use Rattle.group_legal.proofs.Scanned.{takes}
 use Rattle.group_legal.proofs.Newcomers.{adds_new}
 use Rattle.group_legal.proofs.Numbered.{kept_list}

@@ -16,11 +16,13 @@ ghost use Rattle.group_laws.specs.World.{IsKeptList};
 ghost use Rattle.group_lives.specs.Lives.{life_of};
 ghost use Rattle.group_lives.specs.Sound.{IsTaking, AddsNew};
 ghost use Rattle.group_order.specs.OneLog.{OneLogOf};
-ghost use Rattle.group_legal.specs.Lists.{EveryFounderTakes};
 ghost use Rattle.group_legal.specs.Order.{EveryRunIsOrdered};
+ghost use Rattle.group_legal.specs.EveryRun.{EveryRunIsLegal};
 
+use group_lives::{a_give_tells_of_the_list, certifiers_agree};
 use group_order::slots_are_of_one_log;
-use group_runs::runs_are_of_nodes;
+use group_runs::{runs_are_of_nodes, servers_write_apart};
+use txn_forms::bytes_of_bodies;
 
 /// The first law of a legal run holds of every run, for the list that its one log gives: each slot that an incarnation takes or skips has the value and the
 /// entry of the list, in consecutive slots, from the slot of its own Add on; no other slot is in the log; and each value that is taken or skipped, but for a
@@ -42,10 +44,20 @@ pub fn the_list_is_scanned()
     ensures numbered { (t : Setup) (base : List law.Placed) (log : List Value) → IsKeptList t (lives.taken (life_of base (listed t log))) }
 {}
 
-/// In every run of the group the history of a founder takes a list: each entry has the next place, and the effect that the rules give it.
-pub fn founders_take_a_list()
-    ensures { EveryFounderTakes }
+/// Every run of the group is legal: whatever the servers, messages, losses, repeats, stops and rejoins, members take parts of one ordered list; each
+/// transaction has the verdict and the GTID that a scan of the whole list gives; every begin at BEFORE reads all that was certified before its place, every
+/// transaction at AFTER was prepared at each member that then was ONLINE, every begin at a new primary reads its backlog; and the rows of each running
+/// incarnation are those of its executed set, no change of which is refused.
+///
+/// The numbers of GTIDs and what own values hold are to be within the ranges of their forms: members refuse what isn't.
+/// (MySQL 8.0 Reference Manual, Group Replication: Transaction Consistency Guarantees; Distributed Recovery.)
+pub fn every_run_is_legal()
+    ensures { EveryRunIsLegal }
 {
     runs_are_of_nodes();
+    servers_write_apart();
     slots_are_of_one_log();
+    bytes_of_bodies();
+    a_give_tells_of_the_list();
+    certifiers_agree();
 }
