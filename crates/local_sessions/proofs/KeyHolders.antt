@@ -19,6 +19,17 @@ use Rattle.group_rules.specs.declared.marks.Cause.{Cause}
 use Rattle.local_sessions.specs.Others.{has_session}
 use Rattle.local_sessions.specs.Following.{LocksOf, is_free, is_holder, touches}
 
+-- ---- no history
+
+pub none : LocksOf (record { keys = []; places = [] }) []
+none = record {
+  keys = λ i s. refl;
+  called = λ s h. absurd (true≢false h);
+  left = λ s h. absurd (true≢false (sym h));
+  dead = λ s h. absurd (true≢false (sym h));
+  held = λ s i h. refl;
+}
+
 -- ---- what touches no transaction, and ERROR
 
 pub passed : (k : Locked) (l : Life) (d : Did) → touches d ≡ false → LocksOf k l → LocksOf k (d ∷ l)

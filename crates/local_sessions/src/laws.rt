@@ -54,6 +54,7 @@ pub fn sessions_follow_their_history()
 
 /// The locks stand for the history: who holds which key is what the history says, from the beginning on and after each thing that happens.
 pub fn locks_follow_their_history()
+    ensures none { LocksOf (record { keys = []; places = [] }) [] }
     ensures passed { (k : Locked) (l : Life) (d : Did) → touches d ≡ false → LocksOf k l → LocksOf k (d ∷ l) }
     ensures fallen { (k : Locked) (l : Life) (c : AnyCause) → LocksOf k l → LocksOf k (Is Error c ∷ l) }
     ensures called { (k : Locked) (l : Life) (s : ℕ) (v : Level) (w : ℕ) → LocksOf k l → is_free (phase l s) ≡ true → LocksOf k (Called s v w ∷ l) }

@@ -1,6 +1,6 @@
 -- One thing more in the history.
 use Rattle.local_sessions.proofs.Killing.{freed}
-use Rattle.local_sessions.proofs.KeyHolders.{passed, fallen, called, begun, changed, asked, ended}
+use Rattle.local_sessions.proofs.KeyHolders.{none, passed, fallen, called, begun, changed, asked, ended}
 use Rattle.local_sessions.proofs.laws.locks_follow_their_history.Goals as goal
 
 pub returns-clause-passed : goal.returns-clause-passed
@@ -26,3 +26,6 @@ returns-clause-ended c k now l s o e = ended k now l s o e
 
 pub returns-clause-done : goal.returns-clause-done
 returns-clause-done c xs k now l p x f o e d = freed xs k l p x f o e now d
+
+pub returns-clause-none : goal.returns-clause-none
+returns-clause-none c = none
