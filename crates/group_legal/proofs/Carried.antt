@@ -1,21 +1,19 @@
 -- What holds of each certified transaction that is taken holds wherever it is known: where it was given, and where it is stored.
 use Rattle.std.proofs.Common.{◌≡◌, ◌⊎◌, inl, inr, ℕ, Bool, true, false, Option, Some, None, List, [], ◌∷◌, ◌++◌, refl, sym, ap, subst, ◌∙◌}
-use Rattle.std.specs.Prelude.{filter, map, reverse, nat_le, not, ◌==◌}
+use Rattle.std.specs.Prelude.{filter, map, nat_le, not, ◌==◌}
 use Rattle.gr_ids.specs.Names.{inc_eq, gtid_eq}
 use Rattle.gr_ids.specs.declared.names.Inc.{Inc}
 use Rattle.gtid_sets.specs.Sets.{has, with_gtid}
 use Rattle.txn_forms.specs.declared.body.Body.{Body}
-use Rattle.txn_forms.specs.declared.body.Body.TheVariants.{Txn as HasTxn}
-use Rattle.txn_forms.specs.Bodies.{body_bytes, read_body}
 use Rattle.node_rules.specs.Lists.{In}
 use Rattle.node_rules.proofs.Incs.{inc_is}
-use Rattle.group_rules.specs.Names.{Give, Given}
+use Rattle.group_rules.specs.Names.{Give}
 use Rattle.group_rules.specs.Events.{Did, Founds, Starts, Came, Made, Took, Skips, Done, Committed, Is, Gave, Answered, Begun, Changed, Replied, Called, AsksCommit, Ends, Enters, Restores, AskFails, Hears, Ticks, Works, Calls, Operates, Life, Setup, Entry, Stored, OfflineWrite, Cert}
 use Rattle.group_rules.specs.Life.{executed, certs, cert_of, stored}
 use Rattle.group_rules.specs.Rows.{all_in, known}
-use Rattle.group_rules.specs.Recovery.{given_of, cert_given, cert_read, certs_given}
+use Rattle.group_rules.specs.Recovery.{given_of, cert_read, certs_given}
 use Rattle.group_rules.specs.Legal.{IsPast}
-use Rattle.group_rules.specs.World.{Happening, Past, Does, Writes, Halts, life_in, committed_of}
+use Rattle.group_rules.specs.World.{Past, Does, Writes, Halts, life_in, committed_of}
 use Rattle.group_runs.specs.Runs.{running_in, stored_after, stored_in, AllDid, IsDone}
 use Rattle.group_order.specs.OneLog.{GivenBy, OneLogOf}
 use Rattle.group_order.proofs.Nexts.{past_self, past_of, done_at}

@@ -1,11 +1,7 @@
 -- Entries as the rules give them: each has the effect that its list gives it, and the next place.
-use Rattle.std.proofs.Common.{◌≡◌, inl, inr, ℕ, suc, ◌+◌, ◌<◌, Bool, true, false, Option, Some, None, List, [], ◌∷◌, refl, sym, ap, subst, ◌∙◌, length, arith}
+use Rattle.std.proofs.Common.{◌≡◌, ℕ, suc, ◌+◌, Bool, true, false, Option, Some, None, List, refl, ap, arith}
 use Rattle.std.specs.Prelude.{if◌then◌else◌}
-use Rattle.std.proofs.lemmas.Bool.{false≢true}
-use Rattle.gr_ids.specs.declared.names.Inc.{Inc}
 use Rattle.gr_ids.specs.declared.names.OpenParts.{OpenParts}
-use Rattle.gr_ids.specs.declared.levels.MemberState.{MemberState}
-use Rattle.gr_ids.specs.Names.{inc_eq}
 use Rattle.slot_values.specs.declared.value.Value.{Value}
 use Rattle.slot_values.specs.declared.value.What.{What}
 use Rattle.slot_values.specs.declared.value.What.TheVariants.{Noop, Add, Remove, Body as Says}
@@ -14,23 +10,14 @@ use Rattle.slot_values.specs.declared.kept.Kept.TheVariants.{At as KeptAt, Skipp
 use Rattle.slot_values.specs.Log.{Reading, is_kept, has_effect, became}
 use Rattle.txn_forms.specs.declared.body.Body.{Body}
 use Rattle.txn_forms.specs.declared.body.Body.TheVariants.{Txn as Writes, Part as PartOf}
-use Rattle.group_rules.specs.Events.{Did, Founds, Starts, Came, Made, Took, Skips, Done, Committed, Is, Gave, Answered, Begun, Changed, Replied, Called, AsksCommit, Ends, Enters, Restores, AskFails, Hears, Life, Setup, Entry}
+use Rattle.group_rules.specs.Events.{Life, Setup}
 use Rattle.group_rules.specs.Names.{KeptItem}
-use Rattle.group_rules.specs.Life.{view, taken}
+use Rattle.group_rules.specs.Life.{view}
 use Rattle.group_rules.specs.View.{effect_in}
-use Rattle.group_rules.specs.Parts.{open_parts, held, is_void_part}
+use Rattle.group_rules.specs.Parts.{held, is_void_part}
 use Rattle.group_rules.specs.Certifier.{certifier, blocker, verdict_by, next_gtid}
 use Rattle.group_rules.specs.Taking.{effect_of}
-use Rattle.group_rules.specs.OneList.{reading_of, before_slot}
-use Rattle.group_rules.specs.Legal.{IsPast}
-use Rattle.group_rules.specs.World.{world_after, Happening, Past, Does, Writes as WritesOffline, Halts, life_in}
-use Rattle.group_runs.specs.Runs.{is_founder, AllDid, ByRules, IsFirst, IsDone, EveryRun}
-use Rattle.group_order.specs.OneLog.{TakenAs, Follows, AgreesAt, OneLogOf, EveryRunHasOne}
-use Rattle.node_rules.proofs.Incs.{inc_is}
-use Rattle.group_order.proofs.Nexts.{did_past}
-use Rattle.group_order.proofs.Shapes.{Shape, shapes, one_more}
-use Rattle.group_laws.specs.Entries as law
-use Rattle.group_lives.specs.Sound.{IsEffect, IsTaking}
+use Rattle.group_lives.specs.Sound.{IsEffect}
 
 -- ---- an entry by the rules has its effect
 

@@ -1,11 +1,8 @@
 -- What a joiner is given ends with its own Add.
-use Rattle.std.proofs.Common.{◌≡◌, ◌⊎◌, inl, inr, ℕ, zero, suc, ◌≤◌, ◌<◌, Bool, true, false, not, Option, Some, None, List, [], ◌∷◌, refl, sym, ap, subst, ◌∙◌, length, arith}
-use Rattle.std.proofs.lemmas.Bool.{false≢true}
+use Rattle.std.proofs.Common.{◌≡◌, ◌⊎◌, inl, inr, ℕ, zero, suc, ◌≤◌, ◌<◌, Bool, true, false, Some, [], ◌∷◌, refl, sym, ap, subst, ◌∙◌, length, arith}
 use Rattle.gr_ids.specs.Names.{inc_eq}
 use Rattle.gr_ids.specs.declared.names.Inc.{Inc}
-use Rattle.slot_values.specs.declared.value.Value.{Value}
 use Rattle.slot_values.specs.declared.value.What.{What}
-use Rattle.slot_values.specs.declared.value.What.TheVariants.{Add}
 use Rattle.slot_values.specs.declared.kept.Kept.TheVariants.{At as KeptAt}
 use Rattle.slot_values.specs.Log.{became}
 use Rattle.paxos_forms.specs.declared.welcome.Welcome.{Welcome}
@@ -16,9 +13,9 @@ use Rattle.group_rules.specs.declared.marks.Effect.{Effect}
 use Rattle.group_rules.specs.OneList.{listed, reading_of, value_at, before_slot, scan_effect, scan_entry}
 use Rattle.group_rules.specs.Parts.{open_parts, held}
 use Rattle.group_rules.specs.Legal.{IsPast, last_slot}
-use Rattle.group_rules.specs.World.{Happening, Past, Does, Writes, Halts, life_in}
+use Rattle.group_rules.specs.World.{Past, Does, Writes, Halts, life_in}
 use Rattle.group_order.specs.OneLog.{JoinedAs, Follows, AgreesAt, OneLogOf}
-use Rattle.group_order.proofs.Nexts.{past_self, past_of, done_at}
+use Rattle.group_order.proofs.Nexts.{done_at}
 use Rattle.group_order.proofs.Flips.{before_next}
 use Rattle.group_order.proofs.Lookups.{value_within, listed_entry, kept_reading}
 use Rattle.group_laws.specs.Entries as law
@@ -62,7 +59,6 @@ entered_did (Restores y z) l u h = inr h
 entered_did (Committed m) l u h = inr h
 
 pub entered_at : (p : Past) (i : Inc) (u : Welcome) → entered (life_in p i) ≡ Some u → Entered p i u
-
 entered_at [] i u h = absurd (cc h)
 entered_at (Writes n y ∷ p) i u h = let r = entered_at p i u h in (r.0, inr r.1)
 entered_at (Halts n ∷ p) i u h = let r = entered_at p i u h in (r.0, inr r.1)

@@ -25,13 +25,13 @@ use Rattle.group_rules.specs.Events.{Did, Founds, Starts, Came, Made, Took, Skip
 use Rattle.group_rules.specs.Life.{state, is_recovering, executed, view, taken, entered, has_give, entry_at, cert_by, cert_of, certs, stored}
 use Rattle.group_rules.specs.View.{View}
 use Rattle.group_rules.specs.Rows.{all_in, known}
-use Rattle.group_rules.specs.Recovery.{add_place, certs_given, given_of, gtids_of}
+use Rattle.group_rules.specs.Recovery.{add_place, certs_given, gtids_of}
 use Rattle.group_rules.specs.Legal.{IsPast}
-use Rattle.group_rules.specs.World.{Happening, Past, Does, Writes, Halts, life_in, nothing_stored, committed_of}
+use Rattle.group_rules.specs.World.{Past, Does, Writes, Halts, life_in, nothing_stored}
 use Rattle.group_bridge.specs.Left as left
 use Rattle.group_runs.specs.Runs.{IsSetup, is_founder, running_in, stored_after, stored_in, AllDid, IsDone}
-use Rattle.group_runs.specs.Servers.{IsWritten, AllWritten, OfServers}
-use Rattle.group_order.specs.OneLog.{IsReady, GivenBy, TakenAs, Follows, OneLogOf}
+use Rattle.group_runs.specs.Servers.{IsWritten, OfServers}
+use Rattle.group_order.specs.OneLog.{IsReady, GivenBy, OneLogOf}
 use Rattle.group_order.proofs.Nexts.{past_self, past_of, did_past, done_at}
 use Rattle.group_order.proofs.Shapes.{Shape, Asks, shapes, one_more}
 use Rattle.group_order.proofs.Spans.{enters_waits}
@@ -40,11 +40,10 @@ use Rattle.group_laws.specs.Lists.{Mem}
 use Rattle.group_laws.specs.Entries as law
 use Rattle.group_laws.specs.Life as lives
 use Rattle.group_laws.specs.Verdict as decided
-use Rattle.group_laws.specs.Lawful.{upto}
 use Rattle.group_laws.proofs.Certs.{cons_cases, place_le, same_place}
 use Rattle.group_laws.proofs.Names.{gtid_eq_same, bytes_eq_itself}
 use Rattle.group_laws.proofs.Scans.{gtids_distinct}
-use Rattle.group_lives.specs.Lives.{does_entry, outcome_of, placed, life_of, law_cert}
+use Rattle.group_lives.specs.Lives.{does_entry, outcome_of, placed, life_of}
 use Rattle.group_lives.specs.Sound.{IsEffect, HasSets}
 use Rattle.group_lives.proofs.Sets.{canonical}
 use Rattle.group_lives.proofs.Taking.{places_agree}
@@ -62,7 +61,7 @@ use Rattle.group_legal.proofs.Scanned.{scanned}
 use Rattle.group_legal.proofs.Told.{Spelled}
 use Rattle.group_legal.proofs.Owners.{some_none, HasNumbers, SetsAt, sets_at, written_past}
 use Rattle.group_legal.proofs.Sorted.{Apart, NoTwice, in_all, all_ascends, all_first, all_second}
-use Rattle.group_legal.proofs.Stocks.{Readable, StockOf, CommitsOnce, CertsOf, filter_in, in_first, in_second, in_either, stopped}
+use Rattle.group_legal.proofs.Stocks.{StockOf, CommitsOnce, CertsOf, filter_in, in_first, in_second, in_either, stopped}
 use Rattle.group_legal.proofs.Carried.{as_given, given_back, in_map, map_in, in_known, CarriedAt}
 use Rattle.group_legal.proofs.Listed.{Known, given_gtid, fine_at, ready_took, judged_took, known_at}
 
@@ -141,14 +140,17 @@ cert_back t v e n d h p q = go e.value.what e.effect e.holds refl refl refl h q
     here : (g : Gtid) (x : Txn) → e.effect ≡ Positive g → e.holds ≡ Some (HasTxn x) → g.source ≡ t.limits.group → law.cert_parts t n e.value.id.origin e.value.id.number (law.Write x) (law.Positive g.number) ≡ Some d → Goal
     here g x f b s z =
         let c : Cert = record { place = e.place; id = e.value.id; gtid = g; txn = x } in
-        let y : record { place = n; origin = e.value.id.origin; id = e.value.id.number; gtid = record { source = t.limits.group; number = g.number }; txn = x } ≡ d = cc z in
-        (c, subst (In c) (sym (ap (λ (f : Effect). cert_by e.place e.value.id f e.holds) f ∙ ap (λ (b : Option Body). cert_by e.place e.value.id (Positive g) b) b)) (inl refl), record {
-          place = p ∙ ap (λ (u : law.Cert). u.place) y;
-          origin = ap (λ (u : law.Cert). u.origin) y;
-          number = inl (ap (λ (u : law.Cert). u.id) y);
-          gtid = ap (λ s. record { source = s; number = g.number }) s ∙ ap (λ (u : law.Cert). u.gtid) y;
-          txn = ap (λ (u : law.Cert). u.txn) y;
-        })
+        let y : record { place = n; origin = e.value.id.origin; id = e.value.id.number; gtid = record { source = t.limits.group; number = g.number }; txn = x } ≡ d = cc z in (
+          c,
+          subst (In c) (sym (ap (λ (f : Effect). cert_by e.place e.value.id f e.holds) f ∙ ap (λ (b : Option Body). cert_by e.place e.value.id (Positive g) b) b)) (inl refl),
+          record {
+            place = p ∙ ap (λ (u : law.Cert). u.place) y;
+            origin = ap (λ (u : law.Cert). u.origin) y;
+            number = inl (ap (λ (u : law.Cert). u.id) y);
+            gtid = ap (λ s. record { source = s; number = g.number }) s ∙ ap (λ (u : law.Cert). u.gtid) y;
+            txn = ap (λ (u : law.Cert). u.txn) y;
+          },
+        )
 
     says : (b : List ℕ) (f : Effect) (o : Option Body) → e.effect ≡ f → e.holds ≡ o → IsEffect t v (Says b) o f → law.cert_parts t n e.value.id.origin e.value.id.number (does_entry (Says b) f o) (outcome_of f) ≡ Some d → Goal
     says b (Positive g) (Some (HasTxn x)) y u k z = here g x y u k z

@@ -1,26 +1,25 @@
 -- Certified transactions wherever they are known: their GTIDs are within their ranges, their bytes are read as them, and they stand in the list.
-use Rattle.std.proofs.Common.{◌≡◌, ◌⊎◌, inl, inr, ℕ, suc, ◌≤◌, ◌<◌, Bool, true, false, Option, Some, None, List, [], ◌∷◌, ◌++◌, refl, sym, ap, subst, ◌∙◌, length, arith}
-use Rattle.std.proofs.lemmas.Bool.{false≢true, cases_Bool}
+use Rattle.std.proofs.Common.{◌≡◌, inl, inr, ℕ, suc, ◌<◌, Bool, true, false, Option, Some, None, List, ◌∷◌, ◌++◌, refl, sym, ap, subst, ◌∙◌, length, arith}
+use Rattle.std.proofs.lemmas.Bool.{cases_Bool}
 use Rattle.gr_ids.specs.declared.names.Inc.{Inc}
 use Rattle.gr_ids.specs.declared.names.Gtid.{Gtid}
 use Rattle.gr_ids.specs.declared.names.OpenParts.{OpenParts}
 use Rattle.gtid_sets.specs.Canonical.{IsUuid, IsNumber}
-use Rattle.slot_values.specs.declared.value.Value.{Value}
 use Rattle.slot_values.specs.declared.value.What.{What}
 use Rattle.slot_values.specs.declared.value.What.TheVariants.{Noop, Add, Remove, Body as Says}
 use Rattle.txn_forms.specs.declared.body.Body.{Body}
 use Rattle.txn_forms.specs.declared.body.Body.TheVariants.{Txn as HasTxn, Prepared, Sync, Executed, Online as Arrives, Mode as Switches, Primary as Appoints, Part as PartOf}
 use Rattle.txn_forms.specs.declared.body.Part.{Part}
 use Rattle.txn_forms.specs.declared.body.Txn.{Txn}
-use Rattle.txn_forms.specs.Bodies.{body_bytes, read_body}
+use Rattle.txn_forms.specs.Bodies.{read_body}
 use Rattle.txn_forms.specs.Parts.{is_last, is_large, if_txn, joined, bytes_before}
 use Rattle.node_rules.specs.Lists.{In}
 use Rattle.node_rules.proofs.Incs.{inc_same}
 use Rattle.group_rules.specs.declared.marks.Effect.{Effect}
 use Rattle.group_rules.specs.declared.marks.Effect.TheVariants.{Plain, Void, Unread, Positive, Conflict}
-use Rattle.group_rules.specs.Events.{Did, Took, Life, Setup, Entry, Cert}
-use Rattle.group_rules.specs.Life.{view, taken, cert_by, cert_of, certs, stored}
-use Rattle.group_rules.specs.Parts.{open_parts, joined_or, held_part, held_body, held}
+use Rattle.group_rules.specs.Events.{Took, Setup, Entry, Cert}
+use Rattle.group_rules.specs.Life.{view, cert_by, cert_of}
+use Rattle.group_rules.specs.Parts.{open_parts, joined_or, held_body, held}
 use Rattle.group_rules.specs.View.{View}
 use Rattle.group_rules.specs.Legal.{IsPast}
 use Rattle.group_rules.specs.World.{Past, Does, life_in}
@@ -28,7 +27,6 @@ use Rattle.group_runs.specs.Runs.{IsSetup, is_founder, AllDid, IsDone}
 use Rattle.group_order.specs.OneLog.{IsReady, TakenAs, Follows, OneLogOf}
 use Rattle.group_order.proofs.Nexts.{past_self, past_of, did_past, done_at}
 use Rattle.group_order.proofs.Shapes.{Shape, shapes, takes_after}
-use Rattle.group_laws.specs.Lists as listing
 use Rattle.group_laws.specs.Lists.{Mem}
 use Rattle.group_laws.specs.Entries as law
 use Rattle.group_laws.specs.Life as lives
@@ -36,7 +34,7 @@ use Rattle.group_laws.specs.Lawful.{upto}
 use Rattle.group_laws.proofs.Acks.{upto_is_past}
 use Rattle.group_laws.proofs.ServerRows.{certified_past}
 use Rattle.group_lives.specs.Lives.{does_entry, outcome_of, placed, life_of, law_cert}
-use Rattle.group_lives.specs.Sound.{IsEffect, IsTaking}
+use Rattle.group_lives.specs.Sound.{IsEffect}
 use Rattle.group_lives.proofs.Taking.{places_agree}
 use Rattle.group_lawful.specs.Knows.{Alike}
 use Rattle.group_legal.specs.Bases.{list_of, base_in, TakesOf, JudgesAs}

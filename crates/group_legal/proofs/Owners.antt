@@ -1,30 +1,27 @@
 -- Servers: what they have executed, and which incarnation runs.
-use Rattle.std.proofs.Common.{◌≡◌, ◌⊎◌, inl, inr, ℕ, suc, Bool, true, false, cond, ◌&&◌, ◌||◌, Option, Some, None, List, [], ◌∷◌, ◌++◌, refl, sym, ap, subst, ◌∙◌, length, eqb, eq-eqb}
+use Rattle.std.proofs.Common.{◌≡◌, ◌⊎◌, inl, inr, ℕ, Bool, true, false, cond, ◌&&◌, ◌||◌, Option, Some, None, List, [], ◌∷◌, ◌++◌, refl, sym, ap, subst, ◌∙◌, eq-eqb}
 use Rattle.std.specs.Prelude.{◌==◌}
-use Rattle.std.proofs.lemmas.Bool.{false≢true, cases_Bool, eqb-true, and_parts}
+use Rattle.std.proofs.lemmas.Bool.{false≢true, eqb-true}
 use Rattle.gr_ids.specs.Names.{inc_eq, gtid_eq}
 use Rattle.gr_ids.specs.declared.names.Inc.{Inc}
 use Rattle.gr_ids.specs.declared.names.Gtid.{Gtid}
-use Rattle.gr_ids.specs.declared.levels.MemberState.{MemberState}
 use Rattle.gr_ids.specs.declared.levels.MemberState.TheVariants.{Offline, Recovering, Online, Error}
-use Rattle.gtid_sets.specs.Sets.{Gtids, has, with_gtid}
+use Rattle.gtid_sets.specs.Sets.{has, with_gtid}
 use Rattle.gtid_sets.specs.Canonical.{IsCanonical, IsUuid, IsNumber}
 use Rattle.gtid_sets.proofs.LawLemmas.{all_with_gtid}
 use Rattle.gtid_sets.proofs.PutLemmas.{canonical_with_gtid}
-use Rattle.slot_values.specs.declared.value.Value.{Value}
 use Rattle.txn_forms.specs.declared.body.Body.{Body}
 use Rattle.txn_forms.specs.declared.body.Body.TheVariants.{Txn as HasTxn}
 use Rattle.node_rules.proofs.Incs.{inc_same, inc_is}
 use Rattle.group_rules.specs.declared.answers.Answer.{Answer}
 use Rattle.group_rules.specs.declared.answers.Answer.TheVariants.{Committed as CommittedAs}
-use Rattle.group_rules.specs.declared.marks.Cause.{Cause}
-use Rattle.group_rules.specs.Events.{Did, Founds, Starts, Came, Made, Took, Skips, Done, Committed, Is, Gave, Answered, Begun, Changed, Replied, Called, AsksCommit, Ends, Enters, Restores, AskFails, Event, Hears, Ticks, Works, Calls, Operates, Life, Setup, Stored, OfflineWrite}
+use Rattle.group_rules.specs.Events.{Did, Founds, Starts, Came, Made, Took, Skips, Done, Committed, Is, Gave, Answered, Begun, Changed, Replied, Called, AsksCommit, Ends, Enters, Restores, AskFails, Hears, Ticks, Works, Calls, Operates, Life, Setup, Stored, OfflineWrite}
 use Rattle.group_rules.specs.Life.{executed}
 use Rattle.group_rules.specs.Legal.{IsPast}
-use Rattle.group_rules.specs.World.{Happening, Past, Does, Writes, Halts, life_in, nothing_stored}
-use Rattle.group_runs.specs.Runs.{is_founder, running_in, stored_after, stored_in, AllDid, IsActive, ByRules, IsDone}
+use Rattle.group_rules.specs.World.{Past, Does, Writes, Halts, life_in}
+use Rattle.group_runs.specs.Runs.{is_founder, running_in, stored_after, stored_in, AllDid, IsDone}
 use Rattle.group_runs.specs.Servers.{IsFounding, FoundedAt, IsWritten, AllWritten, OfServers}
-use Rattle.group_order.proofs.Nexts.{past_self, past_of, did_past}
+use Rattle.group_order.proofs.Nexts.{past_self, past_of}
 use Rattle.group_laws.specs.Entries as law
 use Rattle.group_laws.specs.Life as lives
 use Rattle.group_laws.specs.World as run

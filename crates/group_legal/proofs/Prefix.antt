@@ -1,13 +1,12 @@
 -- The list of a log, up to a place.
-use Rattle.std.proofs.Common.{◌≡◌, inl, inr, ℕ, zero, suc, ◌+◌, ◌≤◌, ◌<◌, Bool, true, false, cond, Option, Some, None, List, [], ◌∷◌, refl, sym, ap, subst, ◌∙◌, length, arith, leb, eqb, eq-eqb}
-use Rattle.std.specs.Prelude.{if◌then◌else◌, ◌==◌, nat_le}
-use Rattle.std.proofs.lemmas.Bool.{false≢true, cases_Bool, leb-true, leb-false, le-leb, lt-leb, eqb-true}
+use Rattle.std.proofs.Common.{◌≡◌, inr, ℕ, suc, ◌+◌, ◌≤◌, Bool, true, false, Some, List, [], ◌∷◌, refl, sym, ap, subst, ◌∙◌, length, arith, leb}
+use Rattle.std.specs.Prelude.{◌==◌}
+use Rattle.std.proofs.lemmas.Bool.{le-leb, lt-leb, eqb-true}
 use Rattle.slot_values.specs.declared.value.Value.{Value}
-use Rattle.slot_values.specs.declared.kept.Kept.TheVariants.{At as KeptAt, Skipped as IsSkipped}
-use Rattle.slot_values.specs.Log.{is_kept, has_effect}
-use Rattle.group_rules.specs.Events.{Took, Life, Setup, Entry}
-use Rattle.group_rules.specs.Life.{taken, entry_at}
-use Rattle.group_rules.specs.OneList.{reading_of, scan_entry, listed_by, listed, before_slot}
+use Rattle.slot_values.specs.Log.{is_kept}
+use Rattle.group_rules.specs.Events.{Took, Setup, Entry}
+use Rattle.group_rules.specs.Life.{entry_at}
+use Rattle.group_rules.specs.OneList.{reading_of, listed, before_slot}
 use Rattle.group_laws.specs.Entries as law
 use Rattle.group_laws.specs.Lists.{IsPast}
 use Rattle.group_laws.specs.Lawful.{upto}

@@ -1,34 +1,33 @@
 -- The rows of a history: those of the transactions of the list that it has executed, and of its server's offline writes.
-use Rattle.std.proofs.Common.{◌≡◌, ◌⊎◌, inl, inr, ℕ, suc, ◌≤◌, ◌<◌, Bool, true, false, cond, not, ◌&&◌, ◌||◌, Option, Some, None, List, [], ◌∷◌, ◌++◌, refl, sym, ap, subst, ◌∙◌, length, arith}
+use Rattle.std.proofs.Common.{◌≡◌, inl, inr, ℕ, suc, ◌<◌, Bool, true, false, cond, ◌&&◌, Option, Some, None, List, [], ◌∷◌, ◌++◌, refl, sym, ap, subst, ◌∙◌, length, arith}
 use Rattle.std.specs.Prelude.{map, reverse, ◌==◌}
 use Rattle.std.proofs.lemmas.List.{reverse-append}
 use Rattle.std.proofs.lemmas.Bool.{false≢true, cases_Bool, eqb-true}
 use Rattle.gr_ids.specs.Names.{inc_eq, bytes_eq}
 use Rattle.gr_ids.specs.declared.names.Inc.{Inc}
 use Rattle.gr_ids.specs.declared.names.Gtid.{Gtid}
-use Rattle.gr_ids.specs.declared.levels.MemberState.TheVariants.{Offline, Recovering, Online, Error}
+use Rattle.gr_ids.specs.declared.levels.MemberState.TheVariants.{Online}
 use Rattle.gtid_sets.specs.Sets.{Gtids, has, with_gtid}
 use Rattle.key_items.specs.declared.item.Item.{Item}
 use Rattle.key_items.specs.Items.{item_eq}
 use Rattle.node_rules.specs.Lists.{In}
-use Rattle.node_rules.proofs.Incs.{inc_is, inc_same}
-use Rattle.group_rules.specs.Events.{Did, Founds, Starts, Came, Made, Took, Skips, Done, Committed, Is, Gave, Answered, Begun, Changed, Replied, Called, AsksCommit, Ends, Enters, Restores, AskFails, Hears, Ticks, Works, Calls, Operates, Life, Setup, Stored, OfflineWrite, Cert}
+use Rattle.node_rules.proofs.Incs.{inc_same}
+use Rattle.group_rules.specs.Events.{Did, Founds, Starts, Came, Made, Took, Skips, Done, Committed, Is, Gave, Answered, Begun, Changed, Replied, Called, AsksCommit, Ends, Enters, Restores, AskFails, Hears, Ticks, Works, Calls, Operates, Setup, Stored, OfflineWrite, Cert}
 use Rattle.group_rules.specs.Life.{executed, certs, stored}
-use Rattle.group_rules.specs.Rows.{changed_row, row_by, offline_row, row_in, all_in, known, row_of}
+use Rattle.group_rules.specs.Rows.{changed_row, row_by, offline_row, all_in, known}
 use Rattle.group_rules.specs.OneList.{listed}
 use Rattle.group_rules.specs.Legal.{IsPast, writes_in}
-use Rattle.group_rules.specs.World.{Happening, Past, Does, Writes, Halts, life_in, nothing_stored}
-use Rattle.group_runs.specs.Runs.{IsSetup, is_founder, running_in, stored_after, stored_in, AllDid, IsDone}
+use Rattle.group_rules.specs.World.{Past, Does, Writes, Halts, life_in}
+use Rattle.group_runs.specs.Runs.{IsSetup, running_in, stored_after, stored_in, AllDid, IsDone}
 use Rattle.group_runs.specs.Servers.{IsFounding, IsWritten, AllWritten, OfServers}
 use Rattle.group_order.specs.OneLog.{IsReady, OneLogOf}
-use Rattle.group_order.proofs.Nexts.{past_self, past_of, did_past, done_at}
+use Rattle.group_order.proofs.Nexts.{past_self, past_of, done_at}
 use Rattle.group_laws.specs.Lists as listing
 use Rattle.group_laws.specs.Lists.{Mem}
 use Rattle.group_laws.specs.Entries as law
 use Rattle.group_laws.specs.Life as lives
 use Rattle.group_laws.specs.Table.{applied, rows_of}
-use Rattle.group_laws.specs.Lawful.{rows_now}
-use Rattle.group_laws.proofs.Certs.{place_le, cons_cases, parts_place}
+use Rattle.group_laws.proofs.Certs.{place_le, parts_place}
 use Rattle.group_laws.proofs.ServerRows.{certified_past}
 use Rattle.group_laws.proofs.Lists.{IsPast-self}
 use Rattle.group_laws.proofs.Names.{bytes_eq_itself}
@@ -38,7 +37,7 @@ use Rattle.group_lives.proofs.Sets.{executed_agrees}
 use Rattle.group_lives.proofs.Taking.{certs_agree}
 use Rattle.group_lawful.specs.Knows.{Alike, Descends, certified_of}
 use Rattle.group_lawful.proofs.Changes as changed
-use Rattle.group_lawful.proofs.Lawfuls.{Ascends, ascends_reverse}
+use Rattle.group_lawful.proofs.Lawfuls.{ascends_reverse}
 use Rattle.group_lawful.proofs.Opens.{in_reverse}
 use Rattle.group_lawful.proofs.Known.{reverse_in}
 use Rattle.group_legal.specs.Bases.{list_of, base_in, TakesOf, JudgesAs}
@@ -46,11 +45,11 @@ use Rattle.group_legal.specs.LawRun.{SameRows}
 use Rattle.group_legal.specs.Ranges.{HasSmallNumbers}
 use Rattle.group_legal.proofs.Scanned.{takes, no_give}
 use Rattle.group_legal.proofs.Told.{Spelled}
-use Rattle.group_legal.proofs.Owners.{some_none, running_at, founds_first, written_past}
-use Rattle.group_legal.proofs.Sorted.{in_all, all_first, all_second, StandFor, same_rows}
+use Rattle.group_legal.proofs.Owners.{some_none, founds_first, written_past}
+use Rattle.group_legal.proofs.Sorted.{all_first, all_second, StandFor, same_rows}
 use Rattle.group_legal.proofs.Carried.{CarriedAt, in_known}
 use Rattle.group_legal.proofs.Listed.{Known, known_at}
-use Rattle.group_legal.proofs.Knowing.{KnowsBy, LifeKnows, KnownAt, of_group, ascends_known, known_before}
+use Rattle.group_legal.proofs.Knowing.{LifeKnows, of_group, ascends_known, known_before}
 
 -- ---- the rows of the laws
 

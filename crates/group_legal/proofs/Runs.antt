@@ -1,15 +1,14 @@
 -- Every run of the group is one of which the laws speak.
-use Rattle.std.proofs.Common.{◌≡◌, ◌⊎◌, inl, inr, ℕ, suc, ◌≤◌, ◌<◌, Bool, true, false, cond, not, ◌&&◌, ◌||◌, Option, Some, None, List, [], ◌∷◌, ◌++◌, refl, sym, ap, subst, ◌∙◌, length, eqb, arith}
+use Rattle.std.proofs.Common.{◌≡◌, ◌⊎◌, inl, inr, ℕ, suc, ◌≤◌, ◌<◌, Bool, true, false, not, Option, Some, None, List, [], ◌∷◌, ◌++◌, refl, sym, ap, subst, ◌∙◌, length, arith}
 use Rattle.std.specs.Prelude.{◌==◌}
-use Rattle.std.proofs.lemmas.Bool.{false≢true, cases_Bool, eqb-true}
-use Rattle.gr_ids.specs.Names.{inc_eq, bytes_eq}
+use Rattle.std.proofs.lemmas.Bool.{false≢true, cases_Bool}
+use Rattle.gr_ids.specs.Names.{inc_eq}
 use Rattle.gr_ids.specs.declared.names.Inc.{Inc}
 use Rattle.gr_ids.specs.declared.names.Gtid.{Gtid}
 use Rattle.gr_ids.specs.declared.names.OpenParts.{OpenParts}
-use Rattle.gr_ids.specs.declared.levels.Level.{Level}
 use Rattle.gr_ids.specs.declared.levels.MemberState.{MemberState}
-use Rattle.gr_ids.specs.declared.levels.MemberState.TheVariants.{Offline, Recovering, Online, Error}
-use Rattle.gtid_sets.specs.Sets.{Gtids, has}
+use Rattle.gr_ids.specs.declared.levels.MemberState.TheVariants.{Error}
+use Rattle.gtid_sets.specs.Sets.{has}
 use Rattle.key_items.specs.declared.change.Change.{Change}
 use Rattle.slot_values.specs.declared.value.Value.{Value}
 use Rattle.slot_values.specs.declared.value.What.{What}
@@ -19,7 +18,7 @@ use Rattle.txn_forms.specs.declared.body.Body.TheVariants.{Txn as HasTxn, Prepar
 use Rattle.txn_forms.specs.declared.body.Txn.{Txn}
 use Rattle.paxos_forms.specs.declared.welcome.Welcome.{Welcome}
 use Rattle.node_rules.specs.Lists.{In}
-use Rattle.node_rules.proofs.Incs.{inc_is, inc_same}
+use Rattle.node_rules.proofs.Incs.{inc_is}
 use Rattle.group_rules.specs.declared.answers.Answer.{Answer}
 use Rattle.group_rules.specs.declared.answers.Answer.TheVariants.{Committed as CommittedAs}
 use Rattle.group_rules.specs.declared.marks.Effect.{Effect}
@@ -27,18 +26,17 @@ use Rattle.group_rules.specs.declared.marks.Effect.TheVariants.{Plain, Void, Unr
 use Rattle.group_rules.specs.declared.marks.Cause.{Cause}
 use Rattle.group_rules.specs.Names.{Give}
 use Rattle.group_rules.specs.Events.{Did, Founds, Starts, Came, Made, Took, Skips, Done, Committed, Is, Gave, Answered, Begun, Changed, Replied, Called, AsksCommit, Ends, Enters, Restores, AskFails, Hears, Ticks, Works, Calls, Operates, Life, Setup, Entry, Stored, OfflineWrite, Cert}
-use Rattle.group_rules.specs.Life.{executed, view, taken, entered, has_give, entry_at, certs, stored, last_made}
-use Rattle.group_rules.specs.View.{View, effect_in, void_if, is_idle}
+use Rattle.group_rules.specs.Life.{executed, view, taken, entered, entry_at, certs, last_made}
+use Rattle.group_rules.specs.View.{View, void_if, is_idle}
 use Rattle.group_rules.specs.Certifier.{certifier, verdict}
-use Rattle.group_rules.specs.Parts.{open_parts, held}
+use Rattle.group_rules.specs.Parts.{open_parts}
 use Rattle.group_rules.specs.Taking.{effect_of}
-use Rattle.group_rules.specs.Holds.{has_sync}
 use Rattle.group_rules.specs.Recovery.{add_place}
 use Rattle.group_rules.specs.Legal.{IsPast, runs_in}
 use Rattle.group_rules.specs.World.{Happening, Past, Does, Writes, Halts, life_in}
 use Rattle.group_bridge.specs.Left as left
 use Rattle.group_runs.specs.Runs.{IsSetup, is_founder, running_in, AllDid, ByRules, IsDone}
-use Rattle.group_runs.specs.Servers.{IsWritten, AllWritten, OfServers}
+use Rattle.group_runs.specs.Servers.{IsWritten, OfServers}
 use Rattle.group_order.specs.OneLog.{IsReady, GivenBy, TakenAs, Follows, OneLogOf}
 use Rattle.group_order.proofs.Nexts.{past_self, past_of, did_past, done_at}
 use Rattle.group_order.proofs.Shapes.{Shape, shapes}
@@ -53,38 +51,36 @@ use Rattle.group_laws.specs.World as run
 use Rattle.group_laws.specs.World.{IsRun, IsKeptList, JointDid, AliveDid}
 use Rattle.group_laws.proofs.Acks.{upto_past, upto_is_past, length_upto, values_past}
 use Rattle.group_laws.proofs.Certs.{place_le}
-use Rattle.group_laws.proofs.Freshness.{Inv}
 use Rattle.group_laws.proofs.Law.{run_holds}
 use Rattle.group_laws.proofs.Scans.{values_scan}
 use Rattle.group_laws.proofs.ServerRows.{certified_past}
 use Rattle.group_laws.proofs.Worlds.{life_here}
 use Rattle.group_lives.specs.Given.{IsHere}
 use Rattle.group_lives.specs.Lives.{does_body, does_entry, outcome_of, placed, made_as, sync_number, asking, made_did, did_of, life_of, all_did, run_of}
-use Rattle.group_lives.specs.Sound.{IsEffect, IsSaidEffect, IsTaking, HasToldSets, HasSets, AddsNew}
+use Rattle.group_lives.specs.Sound.{IsEffect, IsTaking, HasToldSets, HasSets, AddsNew}
 use Rattle.group_lives.proofs.Runs.{lives_agree}
 use Rattle.group_lives.proofs.Sets.{executed_agrees}
 use Rattle.group_lives.proofs.Taking.{places_agree}
 use Rattle.group_lawful.specs.Lived.{LivedDid, Lived}
-use Rattle.group_lawful.specs.Knows.{Alike, certified_of, Knows, EndsWithAdd, Sound, SoundAt, GivenOnce, AlwaysSound}
+use Rattle.group_lawful.specs.Knows.{certified_of, EndsWithAdd, Sound, GivenOnce, AlwaysSound}
 use Rattle.group_lawful.proofs.Lives.{lived}
 use Rattle.group_lawful.proofs.Marks.{Distinct, ready_as, ready_back, made_as_many, lawful_finish, lawful_ack}
 use Rattle.group_lawful.proofs.Lawfuls.{lawful_commit}
 use Rattle.group_lawful.proofs.Begins.{lawful_begun}
 use Rattle.group_lawful.proofs.Opens.{unready, ready_or}
 use Rattle.group_lawful.proofs.Given.{cert_within}
-use Rattle.group_lawful.proofs.Changes.{MadeRightly, certified_stays, lawful_change, lawful_made}
+use Rattle.group_lawful.proofs.Changes.{certified_stays, lawful_change, lawful_made}
 use Rattle.group_legal.specs.Bases.{list_of, given_to, base_in, TakesOf, JudgesAs}
-use Rattle.group_legal.specs.LawRun.{MomentOf, SameRows, IsLawRun}
+use Rattle.group_legal.specs.LawRun.{MomentOf, IsLawRun}
 use Rattle.group_legal.specs.Ranges.{HasSmallNumbers}
 use Rattle.group_legal.specs.OwnRanges.{ReadBack, MadeInRange}
-use Rattle.group_legal.proofs.EntryEffects.{entry_takes}
 use Rattle.group_legal.proofs.Prefix.{upto_zero}
 use Rattle.group_legal.proofs.Scanned.{scanned}
 use Rattle.group_legal.proofs.Newcomers.{adds_new}
 use Rattle.group_legal.proofs.Numbered.{kept_list}
 use Rattle.group_legal.proofs.Told.{Spelled, told_sets}
 use Rattle.group_legal.proofs.Takers.{GiveTells, Taker, Judge, adds_past, kept_past, stays_entered, takes_more}
-use Rattle.group_legal.proofs.Owners.{some_none, running_at, runs_here, runs_as, owns_as, written_past}
+use Rattle.group_legal.proofs.Owners.{some_none, runs_here, runs_as, owns_as, written_past}
 use Rattle.group_legal.proofs.Points.{did_here}
 use Rattle.group_legal.proofs.Carried.{CarriedAt}
 use Rattle.group_legal.proofs.Listed.{Known, ready_took}

@@ -1,8 +1,7 @@
 -- Certified transactions by ascending place, and the rows that they leave.
-use Rattle.std.proofs.Common.{◌≡◌, ◌⊎◌, inl, inr, ℕ, suc, ◌≤◌, ◌<◌, Bool, true, false, cond, not, ◌&&◌, ◌||◌, Option, Some, None, List, [], ◌∷◌, ◌++◌, refl, sym, ap, subst, ◌∙◌, length, arith}
-use Rattle.std.specs.Prelude.{nat_lt, filter, map, reverse}
-use Rattle.std.specs.List.{list_any}
-use Rattle.std.proofs.lemmas.Bool.{false≢true, cases_Bool, or_cases, or_left, or_right, and_parts, and_from, leb-true, leb-false}
+use Rattle.std.proofs.Common.{◌≡◌, ◌⊎◌, inl, inr, ℕ, suc, ◌≤◌, ◌<◌, Bool, true, false, ◌&&◌, ◌||◌, Option, None, List, [], ◌∷◌, refl, sym, ap, subst, ◌∙◌, arith}
+use Rattle.std.specs.Prelude.{nat_lt}
+use Rattle.std.proofs.lemmas.Bool.{false≢true, and_parts, and_from, leb-true, leb-false}
 use Rattle.key_items.specs.declared.item.Item.{Item}
 use Rattle.key_items.specs.declared.change.Change.{Change}
 use Rattle.key_items.specs.Items.{item_eq}
@@ -171,8 +170,7 @@ same_rows t m e xs ys i x y = go (last_of i e xs None x.ascends) (last_of i e ys
     other us vs u v c k n =
         let p = and_parts (has e c.gtid) (any_item c.txn.changes i) n in
         let l = u.listed c k p.0 in
-        let o = v.all l.0 l.1 (ap (has e) (sym l.2.gtid) ∙ p.0) in
-        (
+        let o = v.all l.0 l.1 (ap (has e) (sym l.2.gtid) ∙ p.0) in (
           o.0,
           o.1,
           and_from (has e (o.0).gtid) (any_item (o.0).txn.changes i) (ap (has e) (o.2.gtid ∙ sym l.2.gtid) ∙ p.0) (ap (λ (z : Txn). any_item z.changes i) (o.2.txn ∙ sym l.2.txn) ∙ p.1),

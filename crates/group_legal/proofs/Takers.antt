@@ -1,6 +1,6 @@
 -- In a run of the group, each history that takes slots takes the one list: that of a joiner from what it was given on.
-use Rattle.std.proofs.Common.{◌≡◌, ◌⊎◌, inl, inr, ℕ, suc, ◌+◌, ◌≤◌, ◌<◌, Bool, true, false, Option, Some, None, List, [], ◌∷◌, ◌++◌, refl, sym, ap, subst, ◌∙◌, length, arith}
-use Rattle.std.specs.Prelude.{if◌then◌else◌, filter, nat_le}
+use Rattle.std.proofs.Common.{◌≡◌, inl, inr, ℕ, suc, ◌≤◌, ◌<◌, Bool, true, false, Option, Some, None, List, [], ◌∷◌, refl, sym, ap, subst, ◌∙◌, length, arith}
+use Rattle.std.specs.Prelude.{filter, nat_le}
 use Rattle.std.proofs.lemmas.Bool.{false≢true, cases_Bool}
 use Rattle.gr_ids.specs.declared.names.Inc.{Inc}
 use Rattle.gr_ids.specs.declared.levels.MemberState.{MemberState}
@@ -26,7 +26,7 @@ use Rattle.group_rules.specs.Recovery.{give_of}
 use Rattle.group_rules.specs.OneList.{listed, reading_of, before_slot}
 use Rattle.group_rules.specs.Legal.{IsPast, last_slot, SameEntry}
 use Rattle.group_rules.specs.World.{Past, Does, Writes as WritesOffline, Halts, life_in}
-use Rattle.group_bridge.specs.Left.{IsEntered, is_settled}
+use Rattle.group_bridge.specs.Left.{IsEntered}
 use Rattle.group_runs.specs.Runs.{is_founder, AllDid, ByRules, IsFirst, IsDone}
 use Rattle.group_order.specs.OneLog.{IsReady, Viewed, TakenAs, Follows, GivenBy, AgreesAt, OneLogOf}
 use Rattle.node_rules.proofs.Incs.{inc_is, inc_same}
@@ -39,9 +39,8 @@ use Rattle.group_laws.specs.Lawful.{upto}
 use Rattle.group_laws.specs.Life as lives
 use Rattle.group_laws.specs.Primary as primary
 use Rattle.group_laws.specs.World.{IsKeptList}
-use Rattle.group_laws.proofs.Lists.{IsPast-self}
 use Rattle.group_laws.proofs.Acks.{upto_is_past, values_past}
-use Rattle.group_lives.specs.Lives.{does_body, does_entry, placed, life_of}
+use Rattle.group_lives.specs.Lives.{does_entry, placed, life_of}
 use Rattle.group_lives.specs.Given.{GivenAs}
 use Rattle.group_lives.specs.Sound.{IsEffect, IsTaking, HasToldSets, AddsNew}
 use Rattle.group_lives.proofs.Taking.{skip_answer, skip_state, skip_made, views_agree}

@@ -12,18 +12,16 @@ use Rattle.txn_forms.specs.declared.body.Body.TheVariants.{Txn as Writes, Prepar
 use Rattle.txn_forms.specs.declared.body.Part.{Part}
 use Rattle.txn_forms.specs.Bodies.{IsBody, body_bytes, next_body, read_body}
 use Rattle.txn_forms.specs.Parts.{is_last, is_large, if_txn, joined, bytes_before}
-use Rattle.group_rules.specs.Events.{Did, Founds, Starts, Came, Made, Took, Skips, Done, Committed, Is, Gave, Answered, Begun, Changed, Replied, Called, AsksCommit, Ends, Enters, Restores, AskFails, Life, Setup}
+use Rattle.group_rules.specs.Events.{Did, Founds, Starts, Came, Made, Took, Skips, Done, Committed, Is, Gave, Answered, Begun, Changed, Replied, Called, AsksCommit, Ends, Enters, Restores, AskFails, Setup}
 use Rattle.group_rules.specs.Parts.{open_parts, joined_or, held_part, held_body, held}
 use Rattle.group_rules.specs.Told.{tells}
-use Rattle.group_rules.specs.Taking.{entry_of}
 use Rattle.group_rules.specs.World.{Past, Does, Writes as WritesOffline, Halts, life_in}
 use Rattle.slot_values.specs.declared.value.Value.{Value}
 use Rattle.group_runs.specs.Runs.{AllDid}
-use Rattle.group_order.specs.OneLog.{TakenAs, Follows}
+use Rattle.group_order.specs.OneLog.{Follows}
 use Rattle.node_rules.proofs.Incs.{inc_is}
 use Rattle.group_lives.specs.Given.{IsToldSet}
 use Rattle.group_lives.specs.Sound.{HasToldSets}
-use Rattle.group_laws.specs.Entries as law
 
 -- what the bytes of a body are
 abbrev pub Spelled : Type 0

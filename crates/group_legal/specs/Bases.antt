@@ -1,5 +1,5 @@
 -- The one list as the laws have it, and what each joiner was given of it.
-use Rattle.std.specs.Prelude.{◌≡◌, ◌≤◌, ℕ, Option, Some, None, List, [], length}
+use Rattle.std.specs.Prelude.{◌≡◌, ◌≤◌, Option, Some, None, List, [], length}
 use Rattle.gr_ids.specs.declared.names.Inc.{Inc}
 use Rattle.slot_values.specs.declared.value.Value.{Value}
 use Rattle.paxos_forms.specs.declared.welcome.Welcome.{Welcome}
@@ -11,7 +11,7 @@ use Rattle.group_laws.specs.Entries as law
 use Rattle.group_laws.specs.Life as lives
 use Rattle.group_laws.specs.Lawful.{upto}
 use Rattle.group_lives.specs.Lives.{life_of}
-use Rattle.group_lives.specs.Sound.{IsTaking, HasToldSets}
+use Rattle.group_lives.specs.Sound.{IsTaking}
 
 abbrev pub list_of : Setup → List Value → List law.Placed
 list_of t log = lives.marked (life_of [] (listed t log))

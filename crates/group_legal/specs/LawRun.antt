@@ -9,7 +9,7 @@ use Rattle.group_rules.specs.Rows.{row_in, row_of}
 use Rattle.group_rules.specs.OneList.{listed}
 use Rattle.group_rules.specs.Legal.{IsPast, runs_in, writes_in}
 use Rattle.group_rules.specs.World.{Past, life_in}
-use Rattle.group_order.specs.OneLog.{IsReady, OneLogOf}
+use Rattle.group_order.specs.OneLog.{IsReady}
 use Rattle.group_laws.specs.Entries as law
 use Rattle.group_laws.specs.World.{IsRun}
 use Rattle.group_lives.specs.Lives.{run_of}

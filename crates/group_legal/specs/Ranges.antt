@@ -1,5 +1,5 @@
 -- A run in which numbers stay within the ranges of their forms. (Members refuse a transaction whose GTID would have a greater number.)
-use Rattle.std.specs.Prelude.{◌≡◌, List, ◌∷◌}
+use Rattle.std.specs.Prelude.{◌≡◌, ◌∷◌}
 use Rattle.gr_ids.specs.declared.names.Inc.{Inc}
 use Rattle.gr_ids.specs.declared.names.Gtid.{Gtid}
 use Rattle.gtid_sets.specs.Canonical.{IsNumber}
