@@ -1,7 +1,7 @@
 -- Each step of a member is made of acts of its node, of things left in its history as the rules ask, and of messages that aren't its node's.
 use Rattle.std.proofs.Common.{eq-eqb, eqb, append_assoc, ◌≡◌, ◌⊎◌, inl, inr, ℕ, zero, suc, ◌+◌, ◌-◌, ◌/◌, ◌≤◌, ◌<◌, Bool, true, false, Option, Some, None, List, [], ◌∷◌, ◌++◌, refl, sym, ap, subst, ◌∙◌, arith}
 use Rattle.std.specs.Prelude.{length, reverse, filter, not, ◌&&◌, ◌==◌, nat_le, take, drop, if◌then◌else◌, is_some}
-use Rattle.std.proofs.lemmas.Bool.{false≢true, and_from, and_parts, cases_Bool, eqb-true, leb-true, leb-false, ltb-false, not-true}
+use Rattle.std.proofs.lemmas.Bool.{false≢true, and_parts, cases_Bool, eqb-true, leb-true, leb-false, ltb-false, not-true}
 use Rattle.std.proofs.lemmas.List.{reverse-append}
 use Rattle.gr_ids.specs.Names.{id_eq, inc_eq, is_inc}
 use Rattle.gr_ids.specs.declared.names.Inc.{Inc}
@@ -65,7 +65,7 @@ use Rattle.group_rules.specs.Recovery.{is_ask_due, is_awaited, is_possible, add_
 use Rattle.group_rules.specs.Points.{asks_this, commit_all, prepare_all, begin_all, arrive, point, commit_one, answer_own, answer_commit, prepare_one, begin_one, begin_by, unless_pending}
 use Rattle.group_rules.specs.Taking.{answer_conflict, on_conflict, propose}
 use Rattle.group_rules.specs.Steps.{hear_add, done_of, time_out, time_out_by, expel_one, campaign_if_due, look_after, tell_at, member_tick, tick_on, tick_once, add_of, reply_ballot, reply_sent, if_online, leave, operate, held_mark}
-use Rattle.group_bridge.specs.Left.{IsPast, IsOver, Fallen, Refused, Settled, IsEnded, Unasked, WasKilled, WasLeft, Over, IsOpen, txn_then, MadeParts, HoldsRightly, with_all, AreOf, IsAnswered, IsEntered, IsRestored}
+use Rattle.group_bridge.specs.Left.{IsPast, Fallen, Refused, Settled, IsEnded, Unasked, WasKilled, WasLeft, Over, IsOpen, txn_then, MadeParts, HoldsRightly, with_all, AreOf, IsAnswered, IsEntered, IsRestored}
 use Rattle.group_bridge.specs.Moves.{Moves, Stays, Leaves, Sends, Acts, Makes, Welcomes, Then}
 use Rattle.group_bridge.proofs.Lists.{in_left, in_right, in_either}
 

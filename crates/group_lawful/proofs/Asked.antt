@@ -1,62 +1,37 @@
 -- A transaction whose commit was asked: until its value waits no more it holds its keys, but for those that a place took over.
-use Rattle.std.proofs.Common.{◌≡◌, ◌⊎◌, inl, inr, ℕ, suc, ◌<◌, Bool, true, false, cond, not, ◌&&◌, ◌||◌, Option, Some, None, List, [], ◌∷◌, ◌++◌, refl, sym, ap, subst, ◌∙◌, length, eqb, eq-eqb, arith}
-use Rattle.std.specs.Prelude.{◌==◌, is_some, nat_lt, filter, reverse}
-use Rattle.std.specs.List.{list_any, find}
-use Rattle.std.proofs.lemmas.Bool.{false≢true, cases_Bool, or_cases, or_left, or_right, and_parts, and_from, not-true, eqb-true}
+use Rattle.std.proofs.Common.{◌≡◌, ◌⊎◌, inl, inr, ℕ, Bool, true, false, ◌&&◌, Some, None, List, [], ◌∷◌, refl, sym, ap, subst, ◌∙◌, eqb}
+use Rattle.std.specs.Prelude.{◌==◌}
+use Rattle.std.proofs.lemmas.Bool.{false≢true, cases_Bool, eqb-true}
 use Rattle.gr_ids.specs.declared.names.Inc.{Inc}
-use Rattle.gr_ids.specs.declared.names.Gtid.{Gtid}
 use Rattle.gr_ids.specs.declared.names.ValueId.{ValueId}
 use Rattle.gr_ids.specs.declared.levels.MemberState.{MemberState}
 use Rattle.gr_ids.specs.declared.levels.MemberState.TheVariants.{Error}
 use Rattle.key_items.specs.declared.item.Item.{Item}
-use Rattle.key_items.specs.declared.change.Change.{Change}
-use Rattle.key_items.specs.Items.{item_eq, has_item}
-use Rattle.key_items.proofs.Order.{item_eq_same, item_eq_itself}
+use Rattle.key_items.specs.Items.{item_eq}
 use Rattle.slot_values.specs.declared.value.Value.{Value}
 use Rattle.txn_forms.specs.declared.body.Txn.{Txn}
 use Rattle.txn_forms.specs.declared.body.Part.{Part}
-use Rattle.txn_forms.specs.declared.body.Body.{Body}
 use Rattle.txn_forms.specs.declared.body.Body.TheVariants.{Txn as Writes, Prepared, Sync, Executed, Online as Arrives, Mode as Switches, Primary as Appoints, Part as PartOf}
-use Rattle.node_rules.specs.Lists.{In}
 use Rattle.group_rules.specs.declared.answers.Answer.{Answer}
 use Rattle.group_rules.specs.declared.answers.Answer.TheVariants.{Committed as CommittedAs}
-use Rattle.group_rules.specs.declared.answers.Holder.{Holder}
-use Rattle.group_rules.specs.declared.answers.Holder.TheVariants.{Session as BySession, Place as ByPlace}
-use Rattle.group_rules.specs.Events.{Did, Founds, Starts, Came, Made, Took, Skips, Done, Committed, Is, Gave, Answered, Begun, Changed, Replied, Called, AsksCommit, Ends, Enters, Restores, AskFails, Hears, Ticks, Works, Calls, Operates, Life, Setup, Entry, Cert}
-use Rattle.group_rules.specs.Life.{certs, has_give, entered}
-use Rattle.group_rules.specs.Queue.{at_place, queue}
-use Rattle.group_rules.specs.Sessions.{Phase, Free, Holding, Active, Asking, is_begun, is_holding, is_active, is_asking, phase, changes, sessions, with_session}
-use Rattle.group_rules.specs.Keys.{killed, hit_by, keeps_key, writes_key, holds_key, session_holder}
-use Rattle.paxos_forms.specs.declared.welcome.Welcome.{Welcome}
+use Rattle.group_rules.specs.Events.{Did, Founds, Starts, Came, Made, Took, Skips, Done, Committed, Is, Gave, Answered, Begun, Changed, Replied, Called, AsksCommit, Ends, Enters, Restores, AskFails, Hears, Ticks, Works, Calls, Operates, Life, Setup}
+use Rattle.group_rules.specs.Life.{certs}
+use Rattle.group_rules.specs.Queue.{at_place}
+use Rattle.group_rules.specs.Sessions.{Phase, Free, Holding, Active, Asking, is_asking, phase}
+use Rattle.group_rules.specs.Keys.{keeps_key, writes_key}
 use Rattle.group_bridge.specs.Left as left
 use Rattle.group_bridge.specs.Left.{IsOpen, MadeParts, AsksFor, IsOver, Fallen, Refused, Settled, IsEnded, Unasked, WasKilled, WasLeft, Over}
-use Rattle.group_rules.specs.declared.marks.Cause.{Cause}
-use Rattle.gr_ids.specs.declared.levels.MemberState.TheVariants.{Offline, Recovering, Online}
-use Rattle.group_bridge.specs.Moves.{slots_in}
-use Rattle.group_runs.specs.Runs.{is_founder}
-use Rattle.group_order.specs.OneLog.{IsReady}
-use Rattle.group_order.proofs.Shapes.{Shape}
 use Rattle.group_laws.specs.Lists.{Mem, newest}
 use Rattle.group_laws.specs.Lists as listing
 use Rattle.group_laws.specs.Entries as law
-use Rattle.group_laws.specs.Verdict as decided
 use Rattle.group_laws.specs.Life as lives
-use Rattle.group_laws.proofs.Lists.{any_mem, any_from, newest_mem, newest_none}
-use Rattle.group_laws.proofs.Certs.{same_place}
-use Rattle.group_lives.specs.Lives.{asking, made_as, placed, sync_number, did_of, life_of}
-use Rattle.group_lawful.specs.Lived.{LivedDid, Lived}
-use Rattle.group_lawful.specs.Knows.{Alike, certified_of, Knows, Sound, SoundAt, AlwaysSound}
-use Rattle.group_lawful.proofs.Sessions.{killed_active, left_fallen, error_stays}
-use Rattle.group_lawful.proofs.Holders.{in_sessions}
-use Rattle.group_lawful.proofs.Opened.{Opened, opened, done_place, is_open, parts_asked}
+use Rattle.group_lives.specs.Lives.{asking, made_as, placed, sync_number, life_of}
+use Rattle.group_lawful.specs.Lived.{Lived}
+use Rattle.group_lawful.specs.Knows.{AlwaysSound}
+use Rattle.group_lawful.proofs.Sessions.{killed_active, left_fallen}
+use Rattle.group_lawful.proofs.Opened.{opened, is_open, parts_asked}
 use Rattle.group_lawful.proofs.Marks.{past_itself, past_tail, lived_past, sound_past}
-use Rattle.group_lawful.proofs.Known.{executed_stays, certs_stay, sets_past, empty_before}
-use Rattle.group_lawful.proofs.Given.{cert_place}
-use Rattle.group_lawful.proofs.States.{fallen_is, has_fallen}
-use Rattle.group_lawful.proofs.Opens.{any_item, any_more, none_hit, kept_hit, hit_kept, any_same, find_is, in_pending, in_queue, AtPlace, at_place_as, sound_where}
-
-
-
+use Rattle.group_lawful.proofs.Opens.{any_item}
 
 some_none : {A : Type 0} {x : A} → Some x ≡ None → ⊥
 some_none e = absurd (cc e)

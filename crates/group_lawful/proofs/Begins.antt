@@ -1,30 +1,26 @@
 -- A begin that is answered: what it waited for holds.
-use Rattle.std.proofs.Common.{◌≡◌, ◌⊎◌, inl, inr, ℕ, suc, ◌+◌, ◌≤◌, ◌<◌, Bool, true, false, cond, not, ◌&&◌, ◌||◌, Option, Some, None, List, [], ◌∷◌, ◌++◌, refl, sym, ap, subst, ◌∙◌, length, eqb, arith}
-use Rattle.std.specs.Prelude.{◌==◌, if◌then◌else◌, nat_lt, nat_le, filter, map, reverse}
+use Rattle.std.proofs.Common.{◌≡◌, ◌⊎◌, inl, inr, ℕ, suc, ◌≤◌, ◌<◌, Bool, true, false, cond, not, ◌&&◌, ◌||◌, Option, Some, None, List, [], ◌∷◌, ◌++◌, refl, sym, ap, subst, ◌∙◌, length, arith}
+use Rattle.std.specs.Prelude.{◌==◌, if◌then◌else◌, nat_lt, filter, map}
 use Rattle.std.specs.List.{list_any, list_all}
-use Rattle.std.proofs.lemmas.Bool.{false≢true, cases_Bool, or_cases, or_left, or_right, and_parts, and_from, not-true, leb-true, leb-false, lt-leb, le-leb, eqb-true}
-use Rattle.gr_ids.specs.Names.{inc_eq, has_inc, gtid_eq}
+use Rattle.std.proofs.lemmas.Bool.{false≢true, cases_Bool, or_left, or_right, and_parts, and_from, not-true, le-leb, eqb-true}
+use Rattle.gr_ids.specs.Names.{inc_eq, gtid_eq}
 use Rattle.gr_ids.specs.declared.names.Inc.{Inc}
 use Rattle.gr_ids.specs.declared.names.Gtid.{Gtid}
-use Rattle.gtid_sets.specs.Sets.{Gtids, has, with_gtid}
-use Rattle.gtid_sets.specs.Canonical.{IsCanonical, IsUuid, IsNumber}
-use Rattle.gtid_sets.proofs.LawLemmas.{all_with_gtid}
-use Rattle.gtid_sets.proofs.PutLemmas.{canonical_with_gtid}
+use Rattle.gtid_sets.specs.Sets.{Gtids, has}
 use Rattle.slot_values.specs.declared.value.What.{What}
 use Rattle.slot_values.specs.declared.value.What.TheVariants.{Noop, Add, Remove, Body as Says}
 use Rattle.txn_forms.specs.declared.body.Body.{Body}
-use Rattle.txn_forms.specs.declared.body.Body.TheVariants.{Txn as Writes, Prepared, Sync, Executed, Online as Arrives, Mode as Switches, Primary as Appoints, Part as PartOf}
+use Rattle.txn_forms.specs.declared.body.Body.TheVariants.{Online as Arrives, Mode as Switches, Primary as Appoints}
 use Rattle.txn_forms.specs.declared.body.Txn.{Txn}
 use Rattle.node_rules.specs.Lists.{In}
-use Rattle.node_rules.specs.declared.seat.Seat.{Seat}
 use Rattle.node_rules.proofs.Incs.{inc_is, inc_same}
 use Rattle.group_rules.specs.declared.marks.Effect.{Effect}
 use Rattle.group_rules.specs.declared.marks.Effect.TheVariants.{Plain, Void, Unread, Positive, Conflict}
 use Rattle.group_rules.specs.Events.{Did, Founds, Starts, Came, Made, Took, Skips, Done, Committed, Is, Gave, Answered, Begun, Changed, Replied, Called, AsksCommit, Ends, Enters, Restores, AskFails, Hears, Ticks, Works, Calls, Operates, Life, Setup, Entry, Cert}
 use Rattle.group_bridge.specs.Moves.{slots_in}
-use Rattle.group_rules.specs.Life.{state, is_up, is_error, is_recovering, executed, certs, view, taken, last_made, own_place, online_place, is_arrival, has_give}
-use Rattle.group_rules.specs.View.{View, online_incs, online_seats, seated, is_online_state, is_online, is_seated}
-use Rattle.group_rules.specs.Queue.{pending, is_done, is_own, all_below}
+use Rattle.group_rules.specs.Life.{state, is_up, is_error, is_recovering, executed, certs, view, taken, last_made, own_place, online_place, has_give}
+use Rattle.group_rules.specs.View.{View, online_seats, is_online}
+use Rattle.group_rules.specs.Queue.{pending}
 use Rattle.group_rules.specs.Commit.{is_prepared}
 use Rattle.group_bridge.specs.Left as left
 use Rattle.group_bridge.specs.Left.{IsBegun, is_arrival_of, is_exit, is_settled}
@@ -32,8 +28,7 @@ use Rattle.group_runs.specs.Runs.{is_founder}
 use Rattle.group_order.specs.OneLog.{IsReady}
 use Rattle.group_order.proofs.Shapes.{Shape}
 use Rattle.group_rules.specs.Sessions.{Call, one_tick, last_call}
-use Rattle.group_rules.specs.Holds.{is_eventual, has_sync, after_then, sync_then, elected_in, elected_then, online_then, conditions, standing_of, standing, is_pending as is_waiting, is_clear, is_clear_at, is_synced, is_met, sync_place, is_released}
-use Rattle.group_rules.specs.declared.holds.Conditions.{Conditions}
+use Rattle.group_rules.specs.Holds.{is_eventual, has_sync, after_then, sync_then, elected_in, elected_then, online_then, standing_of, standing, is_pending as is_waiting, is_clear, is_clear_at, is_synced, sync_place}
 use Rattle.group_rules.specs.declared.holds.Pending.{Pending}
 use Rattle.gr_ids.specs.declared.levels.Level.{Level}
 use Rattle.gr_ids.specs.declared.names.ValueId.{ValueId}
@@ -44,36 +39,29 @@ use Rattle.group_rules.specs.View.{is_single, has_primary, elect, joiners, with_
 use Rattle.gr_ids.specs.declared.levels.Mode.TheVariants.{Single as IsSingle, Multi}
 use Rattle.txn_forms.specs.declared.body.ModeChange.TheVariants.{Multi as ToMulti, Single as ToSingle}
 use Rattle.slot_values.specs.declared.value.Joiner.{Joiner}
-use Rattle.group_lives.specs.Lives.{sync_number}
 use Rattle.group_laws.specs.Lists as listing
 use Rattle.group_laws.specs.Lists.{Mem}
 use Rattle.group_laws.specs.Entries as law
 use Rattle.group_laws.specs.View as seen
 use Rattle.group_laws.specs.Primary as primary
 use Rattle.group_laws.specs.Life as lives
-use Rattle.group_laws.proofs.Lists.{IsPast-self, IsPast-nil}
-use Rattle.group_laws.specs.Lawful as lawful
+use Rattle.group_laws.proofs.Lists.{IsPast-nil}
 use Rattle.group_laws.specs.Lawful.{IsPrepared, HasAll, Synced, Holds}
-use Rattle.group_laws.proofs.Lists.{any_from}
-use Rattle.group_laws.proofs.Names.{gtid_eq_same, gtid_eq_itself}
+use Rattle.group_laws.proofs.Names.{gtid_eq_itself}
 use Rattle.group_laws.proofs.Views.{before_online_le, online_place as same_before}
-use Rattle.group_laws.proofs.Acks.{gone_rank, upto_is_past, values_past}
 use Rattle.group_lives.specs.Lives.{does_entry, placed, life_of}
-use Rattle.group_lives.specs.Sound.{IsEffect, IsTaking, HasSets, AddsNew}
-use Rattle.group_lives.proofs.Sets.{canonical, executed_agrees}
+use Rattle.group_lives.specs.Sound.{HasSets}
+use Rattle.group_lives.proofs.Sets.{executed_agrees}
 use Rattle.group_lives.proofs.Taking.{places_agree, views_agree, skip_made, skip_answer, skip_state}
-use Rattle.group_lives.proofs.Standings.{StandsAs, stands}
-use Rattle.group_lives.proofs.Stable.{is_there}
 use Rattle.group_lawful.specs.Lived.{LivedDid, Lived}
-use Rattle.group_lawful.specs.Knows.{Alike, certified_of, Descends, Knows, Sound, AlwaysSound}
-use Rattle.group_lawful.proofs.Opens.{in_pending, sound_where, ready_or, unready}
+use Rattle.group_lawful.specs.Knows.{certified_of, Sound, AlwaysSound}
+use Rattle.group_lawful.proofs.Opens.{ready_or, unready}
 use Rattle.group_lawful.proofs.Marks.{lived_past, sound_past, past_tail}
 use Rattle.group_lawful.proofs.Known.{sets_past, executed_stays, certs_stay, is_pending, sound_took, empty_before}
 use Rattle.group_lawful.proofs.Commits.{all_in, SameSets, prepared_back}
 use Rattle.group_lawful.proofs.Sessions.{law_call, calls, call_as}
 use Rattle.group_lawful.proofs.States.{stand, StateAs, StandsSo, stands_so, fallen_is, entry_stays, in_before, shape_of, given_stands}
 use Rattle.group_lawful.proofs.Given.{cert_place}
-
 
 end_none : (xs : List ℕ) (x : ℕ) → xs ++ x ∷ [] ≡ [] → ⊥
 end_none [] x e = absurd (cc e)
@@ -438,7 +426,6 @@ module _ (t : Setup) (i : Inc) (base : List law.Placed) where
             number = r.number ∙ sym (ap (λ b. elim b [ true ↦ suc (last_made p) | false ↦ 0 ]) y);
             all = λ d z le. let a = r.place in all_below_now l l (past_here l) m (sound_listed l m.0.1 d z) n q d z (omega (arith, a, le));
           }
-
 
   -- ---- the election, and the own Online entry
 

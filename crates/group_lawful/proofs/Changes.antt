@@ -1,8 +1,8 @@
 -- A statement that changes a row, and the own value of a transaction, as the laws ask them.
 use Rattle.std.proofs.Common.{◌≡◌, ◌⊎◌, inl, inr, ℕ, suc, ◌≤◌, ◌<◌, Bool, true, false, cond, not, ◌&&◌, ◌||◌, Option, Some, None, List, [], ◌∷◌, ◌++◌, refl, sym, ap, subst, ◌∙◌, length, eqb, eq-eqb, arith}
-use Rattle.std.specs.Prelude.{◌==◌, if◌then◌else◌, is_some, nat_lt, filter, reverse}
-use Rattle.std.specs.List.{list_any, find}
-use Rattle.std.proofs.lemmas.Bool.{false≢true, cases_Bool, or_cases, or_left, or_right, and_parts, and_from, not-true, eqb-true}
+use Rattle.std.specs.Prelude.{◌==◌, if◌then◌else◌, is_some, filter}
+use Rattle.std.specs.List.{list_any}
+use Rattle.std.proofs.lemmas.Bool.{false≢true, cases_Bool, or_left, and_parts, and_from, eqb-true}
 use Rattle.gr_ids.specs.declared.names.Inc.{Inc}
 use Rattle.gr_ids.specs.declared.names.Gtid.{Gtid}
 use Rattle.gr_ids.specs.declared.names.ValueId.{ValueId}
@@ -19,42 +19,35 @@ use Rattle.txn_forms.specs.declared.body.Part.{Part}
 use Rattle.txn_forms.specs.declared.body.Body.{Body}
 use Rattle.txn_forms.specs.declared.body.Body.TheVariants.{Txn as Writes, Prepared, Sync, Executed, Online as Arrives, Mode as Switches, Primary as Appoints, Part as PartOf}
 use Rattle.node_rules.specs.Lists.{In}
-use Rattle.group_rules.specs.declared.answers.Answer.{Answer}
-use Rattle.group_rules.specs.declared.answers.Answer.TheVariants.{Committed as CommittedAs}
 use Rattle.group_rules.specs.declared.answers.Holder.{Holder}
-use Rattle.group_rules.specs.declared.answers.Holder.TheVariants.{Session as BySession, Place as ByPlace}
+use Rattle.group_rules.specs.declared.answers.Holder.TheVariants.{Place as ByPlace}
 use Rattle.group_rules.specs.Events.{Did, Founds, Starts, Came, Made, Took, Skips, Done, Committed, Is, Gave, Answered, Begun, Changed, Replied, Called, AsksCommit, Ends, Enters, Restores, AskFails, Hears, Ticks, Works, Calls, Operates, Life, Setup, Entry, Cert}
-use Rattle.group_rules.specs.Life.{is_up, is_recovering, last_made, certs, has_give, entered, state, is_error, executed}
-use Rattle.group_rules.specs.Queue.{is_done, is_own, at_place, pending, queue}
+use Rattle.group_rules.specs.Life.{is_up, is_recovering, certs, has_give, state, is_error, executed}
+use Rattle.group_rules.specs.Queue.{is_done, is_own, pending, queue}
 use Rattle.group_rules.specs.Commit.{required, has_sent_prepared, is_prepared, owes_prepared}
 use Rattle.gtid_sets.specs.Sets.{Gtids}
 use Rattle.gr_ids.specs.Names.{has_inc}
 use Rattle.group_lawful.proofs.Commits.{prepared_as}
-use Rattle.group_rules.specs.Sessions.{Call, one_tick, last_call, Phase, Free, Holding, Active, Asking, is_begun, is_holding, is_active, is_asking, phase, changes, sessions, with_session}
-use Rattle.group_rules.specs.Calls.{items_of, is_after_call, state_then}
-use Rattle.group_rules.specs.Keys.{place_holder, or_holder, holder, was_left, killed, hit_by, keeps_key, writes_key, holds_key, session_holder}
-use Rattle.paxos_forms.specs.declared.welcome.Welcome.{Welcome}
+use Rattle.group_rules.specs.Sessions.{Call, one_tick, last_call, Active, Asking, is_begun, is_active, is_asking, phase, changes, sessions}
+use Rattle.group_rules.specs.Calls.{items_of, state_then}
+use Rattle.group_rules.specs.Keys.{place_holder, or_holder, killed, keeps_key, writes_key, holds_key, session_holder}
 use Rattle.group_bridge.specs.Left as left
 use Rattle.group_bridge.specs.Left.{IsOpen, MadeParts, AsksFor, IsOver, Fallen, Refused, Settled, IsEnded, Unasked, WasKilled, WasLeft, Over}
-use Rattle.group_rules.specs.declared.marks.Cause.{Cause}
 use Rattle.gr_ids.specs.declared.levels.MemberState.TheVariants.{Offline, Recovering, Online}
-use Rattle.group_bridge.specs.Moves.{slots_in}
-use Rattle.group_runs.specs.Runs.{is_founder}
 use Rattle.group_order.specs.OneLog.{IsReady}
-use Rattle.group_order.proofs.Shapes.{Shape}
 use Rattle.group_laws.specs.Lists.{Mem, newest}
 use Rattle.group_laws.specs.Lists as listing
 use Rattle.group_laws.specs.Entries as law
 use Rattle.group_laws.specs.View as seen
-use Rattle.group_laws.specs.Table.{Rows, put, applied, Covers, rows_of}
+use Rattle.group_laws.specs.Table.{Rows, put, applied}
 use Rattle.group_laws.specs.World.{IsKeptList}
 use Rattle.group_laws.specs.Lawful.{IsNow, InSession, rows_now, Waits, Lost, LawfulChange, Asks, LawfulBody, LawfulMade}
 use Rattle.group_laws.proofs.Worlds.{kept_number}
-use Rattle.group_rules.specs.Rows.{row_after, fits, changed_row, row_of, row_now}
+use Rattle.group_rules.specs.Rows.{row_after, fits, changed_row, row_of}
 use Rattle.group_laws.specs.Verdict as decided
 use Rattle.group_laws.specs.Life as lives
 use Rattle.group_laws.proofs.Lives.{ever_mono, ready_mono}
-use Rattle.group_laws.proofs.Lists.{IsPast-self, IsPast-nil, IsPast-mem, any_mem, any_from, newest_mem, newest_none}
+use Rattle.group_laws.proofs.Lists.{IsPast-self, IsPast-nil, IsPast-mem, any_from}
 use Rattle.group_laws.proofs.Certs.{same_place, cons_cases, cons_keeps}
 use Rattle.group_lives.proofs.Taking.{skip_made, skip_answer, skip_state}
 use Rattle.group_lives.proofs.Sets.{canonical, executed_agrees}
@@ -65,23 +58,18 @@ use Rattle.gr_ids.specs.Names.{gtid_eq}
 use Rattle.group_laws.proofs.Names.{gtid_eq_itself}
 use Rattle.node_rules.proofs.Incs.{inc_is}
 use Rattle.group_rules.specs.declared.marks.Effect.TheVariants.{Conflict as Conflicts}
-use Rattle.group_lives.specs.Lives.{does_entry, outcome_of, asking, made_as, placed, sync_number, did_of, life_of}
+use Rattle.group_lives.specs.Lives.{does_entry, outcome_of, asking, made_as, placed, life_of}
 use Rattle.group_lawful.specs.Lived.{LivedDid, Lived}
-use Rattle.group_lawful.specs.Knows.{Alike, certified_of, Knows, Sound, SoundAt, AlwaysSound}
-use Rattle.group_lawful.proofs.Sessions.{killed_active, left_fallen, error_stays, unfallen, law_call, calls, call_as, BegunAs, begun_as}
+use Rattle.group_lawful.specs.Knows.{Alike, certified_of, Sound, AlwaysSound}
+use Rattle.group_lawful.proofs.Sessions.{unfallen, law_call, calls, call_as, BegunAs, begun_as}
 use Rattle.group_lawful.proofs.Asked.{LostSince, AskedAs, Keeps, IsDone, asked_as, asked_first, MadeAs, made_back}
-use Rattle.group_lawful.proofs.Begins.{call_past, sound_listed, online_up}
+use Rattle.group_lawful.proofs.Begins.{call_past, sound_listed}
 use Rattle.group_lawful.proofs.Holders.{in_sessions, free_of, none_open}
 use Rattle.group_lawful.proofs.Opened.{Opened, opened, done_place, is_open, parts_asked}
-use Rattle.group_lawful.proofs.Marks.{ready_back, Distinct, ready_as, made_as_many, done_as, lawful_finish, life_past, past_itself, past_tail, lived_past, sound_past}
-use Rattle.group_lawful.proofs.Known.{executed_stays, certs_stay, sets_past, empty_before, filter_in, is_pending, sound_took}
-use Rattle.group_lawful.proofs.Given.{cert_place}
-use Rattle.group_lawful.proofs.States.{fallen_is, has_fallen, stand, StateAs, stands_so, ready_by, shape_of}
-use Rattle.group_lawful.proofs.Opens.{unready, ready_or, sound_where, any_item, any_more, none_hit, kept_hit, hit_kept, any_same, find_is, in_pending, in_queue, AtPlace, at_place_as}
-
-
-
-
+use Rattle.group_lawful.proofs.Marks.{ready_back, ready_as, made_as_many, done_as, lawful_finish, life_past, past_itself, past_tail, lived_past, sound_past}
+use Rattle.group_lawful.proofs.Known.{executed_stays, sets_past, empty_before, filter_in, is_pending}
+use Rattle.group_lawful.proofs.States.{fallen_is, stand, StateAs, stands_so, ready_by, shape_of}
+use Rattle.group_lawful.proofs.Opens.{unready, ready_or, sound_where, any_item, find_is, in_pending, in_queue}
 
 some_none : {A : Type 0} {x : A} → Some x ≡ None → ⊥
 some_none e = absurd (cc e)
@@ -523,8 +511,7 @@ module _ (t : Setup) (i : Inc) (base : List law.Placed) where
             let f = find_is z.place (queue z.before i) d.0 d.1 in
             let q = in_pending z.before d.0 (in_queue z.before i d.0 f.0).1 in
             let e = (sound_where t i base z.before ob d.0 q.0).knows.of_list d.0 q.0 in
-            let same_cert : e.0 ≡ y.listed = same_place t (lives.marked (life_of base z.before)) e.0 y.listed e.1 y.there (sym e.2.place ∙ f.1 ∙ sym y.place ∙ y.alike.place) in
-            (
+            let same_cert : e.0 ≡ y.listed = same_place t (lives.marked (life_of base z.before)) e.0 y.listed e.1 y.there (sym e.2.place ∙ f.1 ∙ sym y.place ∙ y.alike.place) in (
               y.listed,
               listed_stays (Done z.place ∷ z.before) at y.listed y.there,
               ap (λ (u : Txn). has_item u.items ch.item) (sym y.alike.txn) ∙ ap (λ c. writes_key c ch.item) (sym y.found) ∙ z.takes,

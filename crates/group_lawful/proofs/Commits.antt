@@ -1,32 +1,26 @@
 -- What a commit and a Prepared entry ask of a life.
-use Rattle.std.proofs.Common.{◌≡◌, ◌⊎◌, inl, inr, ℕ, suc, ◌+◌, ◌≤◌, ◌<◌, Bool, true, false, cond, not, ◌&&◌, ◌||◌, Option, Some, None, List, [], ◌∷◌, ◌++◌, refl, sym, ap, subst, ◌∙◌, length, eqb, arith}
-use Rattle.std.specs.Prelude.{◌==◌, nat_lt, nat_le, filter, map, reverse}
+use Rattle.std.proofs.Common.{◌≡◌, ◌⊎◌, inl, inr, ℕ, suc, ◌≤◌, Bool, true, false, cond, not, ◌&&◌, ◌||◌, Option, Some, None, List, [], ◌∷◌, ◌++◌, refl, sym, ap, subst, ◌∙◌, length, arith}
+use Rattle.std.specs.Prelude.{nat_lt, nat_le, filter}
 use Rattle.std.specs.List.{list_any, list_all}
-use Rattle.std.proofs.lemmas.Bool.{false≢true, cases_Bool, or_cases, or_left, or_right, and_parts, and_from, not-true, leb-true, leb-false, lt-leb, le-leb, eqb-true}
-use Rattle.gr_ids.specs.Names.{inc_eq, has_inc, gtid_eq}
+use Rattle.std.proofs.lemmas.Bool.{false≢true, cases_Bool, or_cases, or_left, or_right, and_parts, and_from, not-true, leb-true, leb-false}
+use Rattle.gr_ids.specs.Names.{inc_eq}
 use Rattle.gr_ids.specs.declared.names.Inc.{Inc}
 use Rattle.gr_ids.specs.declared.names.Gtid.{Gtid}
-use Rattle.gtid_sets.specs.Sets.{Gtids, has, with_gtid}
-use Rattle.gtid_sets.specs.Canonical.{IsCanonical, IsUuid, IsNumber}
-use Rattle.gtid_sets.proofs.LawLemmas.{all_with_gtid}
-use Rattle.gtid_sets.proofs.PutLemmas.{canonical_with_gtid}
+use Rattle.gtid_sets.specs.Sets.{has}
 use Rattle.slot_values.specs.declared.value.What.{What}
 use Rattle.slot_values.specs.declared.value.What.TheVariants.{Noop, Add, Remove, Body as Says}
 use Rattle.txn_forms.specs.declared.body.Body.{Body}
 use Rattle.txn_forms.specs.declared.body.Body.TheVariants.{Txn as Writes, Prepared, Sync, Executed, Online as Arrives, Mode as Switches, Primary as Appoints, Part as PartOf}
-use Rattle.txn_forms.specs.declared.body.Txn.{Txn}
 use Rattle.node_rules.specs.Lists.{In}
 use Rattle.node_rules.specs.declared.seat.Seat.{Seat}
 use Rattle.node_rules.proofs.Incs.{inc_is, inc_same}
 use Rattle.group_rules.specs.declared.marks.Effect.{Effect}
-use Rattle.group_rules.specs.Events.{Did, Founds, Starts, Came, Made, Took, Skips, Done, Committed, Is, Gave, Answered, Begun, Changed, Replied, Called, AsksCommit, Ends, Enters, Restores, AskFails, Hears, Ticks, Works, Calls, Operates, Life, Setup, Entry, Cert}
+use Rattle.group_rules.specs.Events.{Founds, Starts, Came, Made, Took, Skips, Done, Committed, Is, Gave, Answered, Begun, Changed, Replied, Called, AsksCommit, Ends, Enters, Restores, AskFails, Hears, Ticks, Works, Calls, Operates, Life, Setup, Entry, Cert}
 use Rattle.group_bridge.specs.Moves.{slots_in}
 use Rattle.group_rules.specs.Life.{executed, certs, view, entry_at, upto}
-use Rattle.group_rules.specs.View.{View, online_incs, online_seats, seated, is_online_state, is_online, is_seated}
-use Rattle.group_rules.specs.Queue.{pending, is_done, is_own, all_below}
-use Rattle.group_rules.specs.Commit.{required, prepares, has_prepared, complete_by, complete, is_settled, is_prepared, owes_prepared, may_commit_own, unless_incomplete, may_commit_other, may_commit}
-use Rattle.group_bridge.specs.Left.{with_all, AreOf, IsCommitted}
-use Rattle.group_laws.specs.Lists as listing
+use Rattle.group_rules.specs.View.{View, seated, is_online_state, is_online, is_seated}
+use Rattle.group_rules.specs.Queue.{is_done, is_own}
+use Rattle.group_rules.specs.Commit.{required, prepares, has_prepared, complete, is_settled, is_prepared}
 use Rattle.group_laws.specs.Lists.{Mem}
 use Rattle.group_laws.specs.Entries as law
 use Rattle.group_laws.specs.View as seen
@@ -34,21 +28,18 @@ use Rattle.group_laws.specs.Primary as primary
 use Rattle.group_laws.specs.Life as lives
 use Rattle.group_laws.specs.Lawful as lawful
 use Rattle.group_laws.specs.Lawful.{Requires, HasPrepared, Complete, Settled, IsPrepared, LawfulCommit}
-use Rattle.group_laws.proofs.Lists.{any_from}
-use Rattle.group_laws.proofs.Names.{gtid_eq_same, gtid_eq_itself}
+use Rattle.group_laws.proofs.Names.{gtid_eq_same}
 use Rattle.group_laws.proofs.Views.{rank, rank_up}
-use Rattle.group_laws.proofs.Acks.{gone_rank, upto_is_past, values_past}
+use Rattle.group_laws.proofs.Acks.{upto_is_past}
 use Rattle.group_lives.specs.Lives.{does_entry, placed, life_of}
-use Rattle.group_lives.specs.Sound.{IsEffect, IsTaking, HasSets, AddsNew}
-use Rattle.group_lives.proofs.Sets.{canonical, executed_agrees}
-use Rattle.group_lives.proofs.Taking.{places_agree, views_agree, skip_made, skip_answer, skip_state}
-use Rattle.group_lives.proofs.Standings.{StandsAs, stands}
+use Rattle.group_lives.specs.Sound.{IsEffect, AddsNew}
+use Rattle.group_lives.proofs.Taking.{views_agree, skip_made, skip_answer, skip_state}
+use Rattle.group_lives.proofs.Standings.{stands}
 use Rattle.group_lives.proofs.Stable.{is_there}
-use Rattle.group_lawful.specs.Lived.{LivedDid, Lived}
-use Rattle.group_lawful.specs.Knows.{Alike, certified_of, Descends, Knows, Sound, AlwaysSound}
-use Rattle.group_lawful.proofs.Opens.{in_pending, sound_where}
-use Rattle.group_lawful.proofs.Marks.{Distinct, done_as}
-use Rattle.group_lawful.proofs.Known.{TookAt, took_at, sound_took, empty_before}
+use Rattle.group_lawful.specs.Lived.{Lived}
+use Rattle.group_lawful.specs.Knows.{Alike, certified_of, Sound, AlwaysSound}
+use Rattle.group_lawful.proofs.Marks.{done_as}
+use Rattle.group_lawful.proofs.Known.{took_at, sound_took, empty_before}
 
 end_none : (xs : List ℕ) (x : ℕ) → xs ++ x ∷ [] ≡ [] → ⊥
 end_none [] x e = absurd (cc e)

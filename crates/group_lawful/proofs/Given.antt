@@ -1,13 +1,9 @@
 -- What a joiner was given stands before its own entries, and there it isn't a member yet.
-use Rattle.std.proofs.Common.{◌≡◌, ◌⊎◌, inl, inr, ℕ, suc, ◌+◌, ◌≤◌, ◌<◌, Bool, true, false, cond, Option, Some, None, List, [], ◌∷◌, ◌++◌, refl, sym, ap, subst, ◌∙◌, length, arith}
-use Rattle.std.proofs.lemmas.Bool.{false≢true, cases_Bool}
+use Rattle.std.proofs.Common.{◌≡◌, ◌⊎◌, inl, inr, ℕ, suc, ◌≤◌, Bool, true, false, cond, Some, None, List, [], ◌∷◌, refl, sym, ap, subst, ◌∙◌, length, arith}
+use Rattle.std.proofs.lemmas.Bool.{false≢true}
 use Rattle.gr_ids.specs.Names.{inc_eq}
 use Rattle.gr_ids.specs.declared.names.Inc.{Inc}
-use Rattle.gr_ids.specs.declared.levels.MemberState.TheVariants.{Error}
-use Rattle.slot_values.specs.declared.value.Joiner.{Joiner}
-use Rattle.txn_forms.specs.declared.body.Body.TheVariants.{Txn as Writes}
-use Rattle.node_rules.proofs.Incs.{inc_same}
-use Rattle.group_rules.specs.Events.{Did, Founds, Starts, Came, Made, Took, Skips, Done, Committed, Is, Gave, Answered, Begun, Changed, Replied, Called, AsksCommit, Ends, Enters, Restores, AskFails, Hears, Ticks, Works, Calls, Operates, Life, Setup}
+use Rattle.group_rules.specs.Events.{Founds, Starts, Came, Made, Took, Skips, Done, Committed, Is, Gave, Answered, Begun, Changed, Replied, Called, AsksCommit, Ends, Enters, Restores, AskFails, Hears, Ticks, Works, Calls, Operates, Life, Setup}
 use Rattle.group_rules.specs.Life.{has_give}
 use Rattle.group_runs.specs.Runs.{is_founder}
 use Rattle.group_laws.specs.Lists as listing
@@ -22,11 +18,10 @@ use Rattle.group_laws.proofs.Certs.{parts_place, cons_cases}
 use Rattle.group_laws.proofs.Views.{rank, rank_up, after_up}
 use Rattle.group_laws.proofs.Worlds.{kept_past}
 use Rattle.group_laws.proofs.Acks.{upto_past, upto_is_past, values_past}
-use Rattle.group_lives.specs.Lives.{placed, life_of}
+use Rattle.group_lives.specs.Lives.{life_of}
 use Rattle.group_lives.specs.Sound.{IsNew, AddsNew}
 use Rattle.group_lives.proofs.Taking.{skip_made, skip_answer, skip_state}
-use Rattle.group_lawful.specs.Lived.{Lived}
-use Rattle.group_lawful.specs.Knows.{certified_of, EndsWithAdd, Sound, AlwaysSound}
+use Rattle.group_lawful.specs.Knows.{certified_of, EndsWithAdd, Sound}
 
 -- places begin with 1
 pub cert_place : (t : Setup) (m : List law.Placed) (d : law.Cert) → Mem d (law.certified t m) → 1 ≤ d.place

@@ -1,32 +1,29 @@
 -- What is known at a moment of a history stays known.
-use Rattle.std.proofs.Common.{◌≡◌, ◌⊎◌, inl, inr, ℕ, suc, ◌+◌, ◌≤◌, ◌<◌, Bool, true, false, cond, not, ◌&&◌, ◌||◌, Option, Some, None, List, [], ◌∷◌, ◌++◌, refl, sym, ap, subst, ◌∙◌, length, eqb, eq-eqb, arith}
+use Rattle.std.proofs.Common.{◌≡◌, ◌⊎◌, inl, inr, ℕ, ◌≤◌, Bool, true, false, not, Option, Some, None, List, [], ◌∷◌, ◌++◌, refl, sym, ap, subst, ◌∙◌, length, arith}
 use Rattle.std.specs.Prelude.{◌==◌, if◌then◌else◌, filter, reverse}
 use Rattle.std.proofs.lemmas.List.{reverse-append}
-use Rattle.std.proofs.lemmas.Bool.{false≢true, cases_Bool, or_right, eqb-true}
+use Rattle.std.proofs.lemmas.Bool.{false≢true, or_right, eqb-true}
 use Rattle.gr_ids.specs.declared.names.Inc.{Inc}
 use Rattle.gr_ids.specs.declared.names.Gtid.{Gtid}
 use Rattle.gr_ids.specs.Names.{gtid_eq}
-use Rattle.gtid_sets.specs.Sets.{Gtids, has, with_gtid}
-use Rattle.gtid_sets.specs.Canonical.{IsCanonical}
+use Rattle.gtid_sets.specs.Sets.{has}
 use Rattle.gtid_sets.proofs.LawLemmas.{all_with_gtid}
 use Rattle.node_rules.specs.Lists.{In}
 use Rattle.group_rules.specs.Events.{Did, Founds, Starts, Came, Made, Took, Skips, Done, Committed, Is, Gave, Answered, Begun, Changed, Replied, Called, AsksCommit, Ends, Enters, Restores, AskFails, Hears, Ticks, Works, Calls, Operates, Life, Setup, Entry, Cert}
 use Rattle.group_rules.specs.Names.{Give}
-use Rattle.group_rules.specs.Life.{state, is_recovering, taken, upto, entry_at, executed, cert_of, certs, has_give}
+use Rattle.group_rules.specs.Life.{state, is_recovering, upto, entry_at, executed, cert_of, certs, has_give}
 use Rattle.group_rules.specs.Queue.{pending}
 use Rattle.group_bridge.specs.Left as left
 use Rattle.group_bridge.specs.Moves.{slots_in}
-use Rattle.group_runs.specs.Runs.{is_founder}
 use Rattle.group_order.specs.OneLog.{IsReady}
 use Rattle.group_order.proofs.Shapes.{Shape}
-use Rattle.group_laws.specs.Lists as listing
 use Rattle.group_laws.specs.Entries as law
 use Rattle.group_laws.specs.Life as lives
 use Rattle.group_laws.specs.Lawful as lawful
 use Rattle.group_laws.proofs.Lists.{IsPast-length}
 use Rattle.group_laws.proofs.Acks.{upto_is_past}
 use Rattle.group_lives.specs.Lives.{placed, life_of}
-use Rattle.group_lives.specs.Sound.{IsTaking, HasSets}
+use Rattle.group_lives.specs.Sound.{HasSets}
 use Rattle.group_lives.proofs.Sets.{canonical}
 use Rattle.group_lives.proofs.Taking.{places_agree, skip_made, skip_answer, skip_state}
 use Rattle.group_lawful.specs.Lived.{LivedDid, Lived}

@@ -1,60 +1,40 @@
 -- A commit, and own values but those of transactions, as the laws ask them.
-use Rattle.std.proofs.Common.{◌≡◌, ◌⊎◌, inl, inr, ℕ, suc, ◌+◌, ◌≤◌, ◌<◌, Bool, true, false, cond, not, ◌&&◌, ◌||◌, Option, Some, None, List, [], ◌∷◌, ◌++◌, refl, sym, ap, subst, ◌∙◌, length, eqb, arith}
-use Rattle.std.specs.Prelude.{◌==◌, if◌then◌else◌, nat_lt, nat_le, filter, map, reverse}
-use Rattle.std.specs.List.{list_any, list_all}
+use Rattle.std.proofs.Common.{◌≡◌, ◌⊎◌, inl, inr, suc, ◌≤◌, ◌<◌, Bool, true, false, not, ◌&&◌, ◌||◌, Some, List, [], ◌∷◌, ◌++◌, refl, sym, ap, subst, ◌∙◌, length, arith}
+use Rattle.std.specs.Prelude.{if◌then◌else◌, nat_lt, filter, reverse}
 use Rattle.std.proofs.lemmas.List.{reverse-append}
-use Rattle.std.proofs.lemmas.Bool.{false≢true, cases_Bool, or_cases, or_left, or_right, and_parts, and_from, not-true, leb-true, leb-false, lt-leb, le-leb, eqb-true}
+use Rattle.std.proofs.lemmas.Bool.{false≢true, cases_Bool, or_cases, or_left, or_right, and_parts, le-leb}
 use Rattle.gr_ids.specs.Names.{inc_eq, has_inc, gtid_eq}
 use Rattle.gr_ids.specs.declared.names.Inc.{Inc}
 use Rattle.gr_ids.specs.declared.names.Gtid.{Gtid}
-use Rattle.gtid_sets.specs.Sets.{Gtids, has, with_gtid}
+use Rattle.gtid_sets.specs.Sets.{Gtids, has}
 use Rattle.gtid_sets.specs.Canonical.{IsCanonical, IsUuid, IsNumber}
 use Rattle.gtid_sets.proofs.LawLemmas.{all_with_gtid}
 use Rattle.gtid_sets.proofs.PutLemmas.{canonical_with_gtid}
-use Rattle.slot_values.specs.declared.value.What.{What}
-use Rattle.slot_values.specs.declared.value.What.TheVariants.{Noop, Add, Remove, Body as Says}
-use Rattle.txn_forms.specs.declared.body.Body.{Body}
-use Rattle.txn_forms.specs.declared.body.Body.TheVariants.{Txn as Writes, Prepared, Sync, Executed, Online as Arrives, Mode as Switches, Primary as Appoints, Part as PartOf}
 use Rattle.txn_forms.specs.declared.body.Txn.{Txn}
 use Rattle.node_rules.specs.Lists.{In}
-use Rattle.node_rules.specs.declared.seat.Seat.{Seat}
 use Rattle.node_rules.proofs.Incs.{inc_is, inc_same}
-use Rattle.group_rules.specs.declared.marks.Effect.{Effect}
-use Rattle.group_rules.specs.Events.{Did, Founds, Starts, Came, Made, Took, Skips, Done, Committed, Is, Gave, Answered, Begun, Changed, Replied, Called, AsksCommit, Ends, Enters, Restores, AskFails, Hears, Ticks, Works, Calls, Operates, Life, Setup, Entry, Cert}
-use Rattle.group_bridge.specs.Moves.{slots_in}
-use Rattle.group_rules.specs.Life.{executed, certs, view, entry_at, upto, has_give}
-use Rattle.group_rules.specs.View.{View, online_incs, online_seats, seated, is_online_state, is_online, is_seated}
+use Rattle.group_rules.specs.Events.{Life, Setup, Entry, Cert}
+use Rattle.group_rules.specs.Life.{executed, certs, entry_at, has_give}
 use Rattle.group_rules.specs.Queue.{pending, is_done, is_own, all_below}
-use Rattle.group_rules.specs.Commit.{required, prepares, has_prepared, complete_by, complete, is_settled, is_prepared, owes_prepared, may_commit_own, unless_incomplete, may_commit_other, may_commit}
+use Rattle.group_rules.specs.Commit.{required, complete, may_commit_own, unless_incomplete, may_commit_other, may_commit}
 use Rattle.group_bridge.specs.Left.{with_all, AreOf, IsCommitted}
-use Rattle.group_laws.specs.Lists as listing
 use Rattle.group_laws.specs.Lists.{Mem}
 use Rattle.group_laws.specs.Entries as law
-use Rattle.group_laws.specs.View as seen
-use Rattle.group_laws.specs.Primary as primary
 use Rattle.group_laws.specs.Life as lives
-use Rattle.group_laws.specs.Lawful as lawful
-use Rattle.group_laws.specs.Lawful.{Requires, HasPrepared, Complete, Settled, IsPrepared, LawfulCommit}
-use Rattle.group_laws.proofs.Lists.{any_from}
-use Rattle.group_laws.proofs.Names.{gtid_eq_same, gtid_eq_itself}
-use Rattle.group_laws.proofs.Views.{rank, rank_up}
-use Rattle.group_laws.proofs.Acks.{gone_rank, upto_is_past, values_past}
-use Rattle.group_lives.specs.Lives.{does_entry, placed, life_of}
-use Rattle.group_lives.specs.Sound.{IsEffect, IsTaking, HasSets, AddsNew}
-use Rattle.group_lives.proofs.Sets.{canonical, executed_agrees}
-use Rattle.group_lives.proofs.Taking.{places_agree, views_agree, skip_made, skip_answer, skip_state}
-use Rattle.group_lives.proofs.Standings.{StandsAs, stands}
-use Rattle.group_lives.proofs.Stable.{is_there}
-use Rattle.group_lawful.specs.Lived.{LivedDid, Lived}
-use Rattle.group_lawful.specs.Knows.{Alike, certified_of, Descends, Knows, Sound, AlwaysSound}
+use Rattle.group_laws.specs.Lawful.{Requires, Complete, LawfulCommit}
+use Rattle.group_laws.proofs.Names.{gtid_eq_same}
+use Rattle.group_lives.specs.Lives.{life_of}
+use Rattle.group_lives.specs.Sound.{HasSets}
+use Rattle.group_lives.proofs.Sets.{canonical}
+use Rattle.group_lawful.specs.Lived.{Lived}
+use Rattle.group_lawful.specs.Knows.{Alike, certified_of, Descends, Sound, AlwaysSound}
 use Rattle.group_lawful.proofs.Opens.{in_filter, in_reverse, in_end, in_pending, sound_where, ready_or, unready}
 use Rattle.group_lawful.proofs.Marks.{Distinct, done_as}
 use Rattle.group_runs.specs.Runs.{is_founder}
 use Rattle.group_order.proofs.Shapes.{Shape}
 use Rattle.group_lawful.proofs.Given.{cert_place, given_before}
 use Rattle.group_lawful.proofs.Known.{sets_past, in_front}
-use Rattle.group_lawful.proofs.Commits.{all_in, SameSets, prepared_as, required_as, complete_as}
-
+use Rattle.group_lawful.proofs.Commits.{all_in, SameSets, required_as, complete_as}
 
 -- ---- the order of what is pending
 

@@ -1,9 +1,9 @@
 -- The history of an incarnation in a run, taken by itself.
-use Rattle.std.proofs.Common.{◌≡◌, inl, inr, Bool, true, false, List, [], ◌∷◌, refl, subst}
+use Rattle.std.proofs.Common.{◌≡◌, inl, inr, Bool, true, false, [], ◌∷◌, refl, subst}
 use Rattle.gr_ids.specs.declared.names.Inc.{Inc}
 use Rattle.gr_ids.specs.Names.{inc_eq}
 use Rattle.node_rules.proofs.Incs.{inc_is}
-use Rattle.group_rules.specs.Events.{Did, Founds, Starts, Came, Made, Took, Skips, Done, Committed, Is, Gave, Answered, Begun, Changed, Replied, Called, AsksCommit, Ends, Enters, Restores, AskFails, Hears, Life, Setup}
+use Rattle.group_rules.specs.Events.{Did, Founds, Starts, Came, Made, Took, Skips, Done, Committed, Is, Gave, Answered, Begun, Changed, Replied, Called, AsksCommit, Ends, Enters, Restores, AskFails, Hears, Setup}
 use Rattle.group_rules.specs.World.{Past, Does, Writes as WritesOffline, Halts, life_in}
 use Rattle.group_runs.specs.Runs.{AllDid, IsActive, ByRules, IsDone}
 use Rattle.group_lawful.specs.Lived.{GoesOn, ByTests, LivedDid, Lived}

@@ -1,26 +1,24 @@
 -- The simple marks: what they ask of a life.
-use Rattle.std.proofs.Common.{◌≡◌, ◌⊎◌, inl, inr, ℕ, suc, ◌<◌, Bool, true, false, cond, not, ◌&&◌, ◌||◌, Option, Some, None, List, [], ◌∷◌, ◌++◌, refl, sym, ap, subst, ◌∙◌, length, eqb, eq-eqb}
+use Rattle.std.proofs.Common.{◌≡◌, inl, inr, ℕ, Bool, true, false, ◌||◌, Option, Some, List, [], ◌∷◌, ◌++◌, refl, sym, ap, subst, ◌∙◌}
 use Rattle.std.specs.Prelude.{◌==◌}
 use Rattle.std.specs.List.{list_any}
-use Rattle.std.proofs.lemmas.Bool.{or_cases, false≢true, cases_Bool, or_left, or_right, eqb-true}
+use Rattle.std.proofs.lemmas.Bool.{or_cases, false≢true, or_left, or_right}
 use Rattle.gr_ids.specs.Names.{inc_eq}
 use Rattle.gr_ids.specs.declared.names.Inc.{Inc}
 use Rattle.gr_ids.specs.declared.names.Gtid.{Gtid}
 use Rattle.gr_ids.specs.declared.levels.MemberState.{MemberState}
 use Rattle.gr_ids.specs.declared.levels.MemberState.TheVariants.{Error}
-use Rattle.slot_values.specs.declared.value.Value.{Value}
 use Rattle.txn_forms.specs.declared.body.Body.{Body}
 use Rattle.txn_forms.specs.declared.body.Body.TheVariants.{Txn as Writes}
 use Rattle.node_rules.specs.Lists.{In}
 use Rattle.node_rules.proofs.Incs.{inc_is, inc_same}
 use Rattle.group_rules.specs.declared.answers.Answer.{Answer}
 use Rattle.group_rules.specs.declared.answers.Answer.TheVariants.{Committed as CommittedAs}
-use Rattle.group_rules.specs.Events.{Did, Founds, Starts, Came, Made, Took, Skips, Done, Committed, Is, Gave, Answered, Begun, Changed, Replied, Called, AsksCommit, Ends, Enters, Restores, AskFails, Hears, Ticks, Works, Calls, Operates, Life, Setup, Entry, Cert}
-use Rattle.group_rules.specs.Life.{certs, has_give, last_made}
-use Rattle.group_rules.specs.Queue.{at_place, queue, is_done, is_own}
+use Rattle.group_rules.specs.Events.{Did, Founds, Starts, Came, Made, Took, Skips, Done, Committed, Is, Gave, Answered, Begun, Changed, Replied, Called, AsksCommit, Ends, Enters, Restores, AskFails, Hears, Ticks, Works, Calls, Operates, Life, Setup, Cert}
+use Rattle.group_rules.specs.Life.{has_give, last_made}
+use Rattle.group_rules.specs.Queue.{queue, is_done}
 use Rattle.group_bridge.specs.Left.{IsAcknowledged}
 use Rattle.group_bridge.specs.Left as left
-use Rattle.group_runs.specs.Runs.{is_founder}
 use Rattle.group_order.specs.OneLog.{IsReady}
 use Rattle.group_laws.specs.Lists as listing
 use Rattle.group_laws.specs.Lists.{Mem}
@@ -28,12 +26,10 @@ use Rattle.group_laws.specs.Entries as law
 use Rattle.group_laws.specs.Life as lives
 use Rattle.group_laws.specs.Lawful.{LawfulFinish, LawfulAck}
 use Rattle.group_laws.proofs.Lists.{IsPast-self}
-use Rattle.group_laws.proofs.Certs.{same_place}
 use Rattle.group_lives.specs.Lives.{did_of, life_of}
 use Rattle.group_lawful.specs.Lived.{LivedDid, Lived}
-use Rattle.group_lawful.specs.Knows.{Alike, certified_of, Knows, Sound, AlwaysSound}
-use Rattle.group_lawful.proofs.Opens.{find_is, in_pending, in_queue, AtPlace, sound_where}
-use Rattle.group_lawful.proofs.Opened.{done_place}
+use Rattle.group_lawful.specs.Knows.{Alike, certified_of, AlwaysSound}
+use Rattle.group_lawful.proofs.Opens.{find_is, in_pending, in_queue, sound_where}
 
 -- no two certified transactions have one GTID
 abbrev pub Distinct : Setup → List law.Placed → Life → Type 0

@@ -1,17 +1,15 @@
 -- The keys that sessions hold: the changes of an open transaction.
-use Rattle.std.proofs.Common.{◌≡◌, ◌⊎◌, inl, inr, ℕ, suc, ◌<◌, Bool, true, false, cond, not, ◌&&◌, ◌||◌, Option, Some, None, List, [], ◌∷◌, ◌++◌, refl, sym, ap, subst, ◌∙◌, length, eqb, eq-eqb, arith}
-use Rattle.std.specs.Prelude.{◌==◌, is_some, nat_lt, filter, reverse}
-use Rattle.std.specs.List.{list_any, find}
-use Rattle.std.proofs.lemmas.Bool.{false≢true, cases_Bool, or_cases, or_left, or_right, and_parts, and_from, not-true, eqb-true}
+use Rattle.std.proofs.Common.{◌≡◌, ℕ, Bool, true, false, cond, ◌&&◌, ◌||◌, Option, Some, None, List, [], ◌∷◌, ◌++◌, refl, sym, ap, ◌∙◌, eq-eqb}
+use Rattle.std.specs.Prelude.{◌==◌}
+use Rattle.std.specs.List.{list_any}
+use Rattle.std.proofs.lemmas.Bool.{false≢true, eqb-true}
 use Rattle.gr_ids.specs.declared.names.Inc.{Inc}
 use Rattle.gr_ids.specs.declared.names.Gtid.{Gtid}
 use Rattle.gr_ids.specs.declared.names.ValueId.{ValueId}
 use Rattle.gr_ids.specs.declared.levels.MemberState.{MemberState}
 use Rattle.gr_ids.specs.declared.levels.MemberState.TheVariants.{Error}
 use Rattle.key_items.specs.declared.item.Item.{Item}
-use Rattle.key_items.specs.declared.change.Change.{Change}
 use Rattle.key_items.specs.Items.{item_eq, has_item}
-use Rattle.key_items.proofs.Order.{item_eq_same, item_eq_itself}
 use Rattle.slot_values.specs.declared.value.Value.{Value}
 use Rattle.txn_forms.specs.declared.body.Txn.{Txn}
 use Rattle.txn_forms.specs.declared.body.Part.{Part}
@@ -20,31 +18,18 @@ use Rattle.txn_forms.specs.declared.body.Body.TheVariants.{Txn as Writes, Prepar
 use Rattle.node_rules.specs.Lists.{In}
 use Rattle.group_rules.specs.declared.answers.Answer.{Answer}
 use Rattle.group_rules.specs.declared.answers.Answer.TheVariants.{Committed as CommittedAs}
-use Rattle.group_rules.specs.declared.answers.Holder.{Holder}
-use Rattle.group_rules.specs.declared.answers.Holder.TheVariants.{Session as BySession, Place as ByPlace}
-use Rattle.group_rules.specs.Events.{Did, Founds, Starts, Came, Made, Took, Skips, Done, Committed, Is, Gave, Answered, Begun, Changed, Replied, Called, AsksCommit, Ends, Enters, Restores, AskFails, Hears, Ticks, Works, Calls, Operates, Life, Setup, Entry, Cert}
-use Rattle.group_rules.specs.Life.{certs, has_give, entered}
+use Rattle.group_rules.specs.Events.{Did, Founds, Starts, Came, Made, Took, Skips, Done, Committed, Is, Gave, Answered, Begun, Changed, Replied, Called, AsksCommit, Ends, Enters, Restores, AskFails, Hears, Ticks, Works, Calls, Operates, Life, Setup, Cert}
+use Rattle.group_rules.specs.Life.{certs}
 use Rattle.group_rules.specs.Queue.{at_place, queue}
-use Rattle.group_rules.specs.Sessions.{Phase, Free, Holding, Active, Asking, is_begun, is_holding, is_active, is_asking, phase, changes, sessions, with_session}
-use Rattle.group_rules.specs.Keys.{killed, hit_by, keeps_key, writes_key, holds_key, session_holder}
-use Rattle.paxos_forms.specs.declared.welcome.Welcome.{Welcome}
-use Rattle.group_bridge.specs.Left.{IsOpen, MadeParts, AsksFor}
-use Rattle.group_bridge.specs.Moves.{slots_in}
-use Rattle.group_runs.specs.Runs.{is_founder}
-use Rattle.group_order.specs.OneLog.{IsReady}
-use Rattle.group_order.proofs.Shapes.{Shape}
-use Rattle.group_laws.specs.Lists.{Mem, newest}
+use Rattle.group_rules.specs.Sessions.{Phase, Free, Holding, Active, Asking, is_holding, is_active, phase, changes}
+use Rattle.group_rules.specs.Keys.{killed, hit_by, keeps_key, writes_key}
+use Rattle.group_bridge.specs.Left.{MadeParts, AsksFor}
 use Rattle.group_laws.specs.Entries as law
-use Rattle.group_laws.specs.Verdict as decided
 use Rattle.group_laws.specs.Life as lives
-use Rattle.group_laws.proofs.Lists.{any_mem, any_from, newest_mem, newest_none}
-use Rattle.group_laws.proofs.Certs.{same_place}
-use Rattle.group_lives.specs.Lives.{asking, did_of, life_of}
+use Rattle.group_lives.specs.Lives.{asking, life_of}
 use Rattle.group_lawful.specs.Lived.{LivedDid, Lived}
-use Rattle.group_lawful.specs.Knows.{Alike, certified_of, Knows, Sound, SoundAt, AlwaysSound}
-use Rattle.group_lawful.proofs.Sessions.{killed_active}
-use Rattle.group_lawful.proofs.Opens.{any_item, any_more, none_hit, kept_hit, hit_kept, any_same, find_is, in_pending, in_queue, AtPlace, at_place_as, sound_where}
-
+use Rattle.group_lawful.specs.Knows.{AlwaysSound}
+use Rattle.group_lawful.proofs.Opens.{any_item, any_more, none_hit, kept_hit, any_same, find_is, in_pending, in_queue, AtPlace, at_place_as, sound_where}
 
 some_none : {A : Type 0} {x : A} → Some x ≡ None → ⊥
 some_none e = absurd (cc e)

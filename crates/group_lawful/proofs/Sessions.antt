@@ -1,21 +1,19 @@
 -- Sessions: their begin calls, and what became of their transactions.
-use Rattle.std.proofs.Common.{◌≡◌, ◌⊎◌, inl, inr, ℕ, suc, ◌<◌, Bool, true, false, cond, not, ◌&&◌, ◌||◌, Option, Some, None, List, [], ◌∷◌, ◌++◌, refl, sym, ap, subst, ◌∙◌, length}
-use Rattle.std.specs.Prelude.{◌==◌, option_map}
+use Rattle.std.proofs.Common.{◌≡◌, inl, inr, ℕ, Bool, true, false, cond, ◌&&◌, ◌||◌, Option, Some, None, List, [], ◌∷◌, refl, sym, ap, ◌∙◌}
+use Rattle.std.specs.Prelude.{◌==◌}
 use Rattle.std.specs.List.{list_any}
-use Rattle.std.proofs.lemmas.Bool.{false≢true, cases_Bool, or_cases, and_parts, not-true, eqb-true}
+use Rattle.std.proofs.lemmas.Bool.{false≢true, eqb-true}
 use Rattle.gr_ids.specs.declared.names.Inc.{Inc}
 use Rattle.gr_ids.specs.declared.names.Gtid.{Gtid}
-use Rattle.gr_ids.specs.declared.names.ValueId.{ValueId}
 use Rattle.gr_ids.specs.declared.levels.MemberState.{MemberState}
 use Rattle.gr_ids.specs.declared.levels.MemberState.TheVariants.{Offline, Recovering, Online, Error}
-use Rattle.slot_values.specs.declared.value.Value.{Value}
 use Rattle.txn_forms.specs.declared.body.Body.{Body}
 use Rattle.txn_forms.specs.declared.body.Body.TheVariants.{Txn as Writes}
 use Rattle.group_rules.specs.declared.answers.Answer.{Answer}
 use Rattle.group_rules.specs.declared.answers.Answer.TheVariants.{Committed as CommittedAs}
 use Rattle.group_rules.specs.declared.marks.Cause.{Cause}
-use Rattle.group_rules.specs.Events.{Did, Founds, Starts, Came, Made, Took, Skips, Done, Committed, Is, Gave, Answered, Begun, Changed, Replied, Called, AsksCommit, Ends, Enters, Restores, AskFails, Hears, Ticks, Works, Calls, Operates, Life, Setup, Entry, Cert}
-use Rattle.group_rules.specs.Life.{state, is_up, is_error, certs}
+use Rattle.group_rules.specs.Events.{Founds, Starts, Came, Made, Took, Skips, Done, Committed, Is, Gave, Answered, Begun, Changed, Replied, Called, AsksCommit, Ends, Enters, Restores, AskFails, Hears, Ticks, Works, Calls, Operates, Life, Setup, Cert}
+use Rattle.group_rules.specs.Life.{state, is_error, certs}
 use Rattle.group_rules.specs.Queue.{at_place}
 use Rattle.group_rules.specs.Sessions.{Phase, Free, Holding, Active, Asking, is_begun, is_active, is_asking, phase, Call, one_tick, last_call}
 use Rattle.group_rules.specs.Keys.{killed, hit_by, keeps_key, was_left}
@@ -24,8 +22,8 @@ use Rattle.group_bridge.specs.Left as left
 use Rattle.group_bridge.specs.Left.{IsOpen, IsBegun}
 use Rattle.group_laws.specs.Entries as law
 use Rattle.group_laws.specs.Life as lives
-use Rattle.group_lives.specs.Lives.{sync_number, asking, did_of, life_of}
-use Rattle.group_lawful.specs.Lived.{LivedDid, Lived}
+use Rattle.group_lives.specs.Lives.{sync_number, life_of}
+use Rattle.group_lawful.specs.Lived.{Lived}
 use Rattle.group_lawful.proofs.States.{has_fallen, fallen_is}
 
 past_itself : (l : Life) → left.IsPast l l

@@ -1,12 +1,11 @@
 -- The own state of a history and how its incarnation stands in the list that it takes.
-use Rattle.std.proofs.Common.{◌≡◌, ◌⊎◌, inl, inr, ℕ, suc, ◌<◌, Bool, true, false, cond, not, ◌&&◌, ◌||◌, Option, Some, None, List, [], ◌∷◌, ◌++◌, refl, sym, ap, subst, ◌∙◌, length, arith}
+use Rattle.std.proofs.Common.{◌≡◌, ◌⊎◌, inl, inr, ℕ, ◌<◌, Bool, true, false, cond, not, ◌&&◌, ◌||◌, Option, Some, None, List, [], ◌∷◌, refl, sym, ap, subst, ◌∙◌, length, arith}
 use Rattle.std.specs.List.{list_any}
-use Rattle.std.proofs.lemmas.Bool.{false≢true, cases_Bool, or_cases, and_parts, not-true}
+use Rattle.std.proofs.lemmas.Bool.{false≢true, cases_Bool, and_parts}
 use Rattle.gr_ids.specs.Names.{inc_eq}
 use Rattle.gr_ids.specs.declared.names.Inc.{Inc}
 use Rattle.gr_ids.specs.declared.levels.MemberState.{MemberState}
 use Rattle.gr_ids.specs.declared.levels.MemberState.TheVariants.{Offline, Recovering, Online, Error}
-use Rattle.slot_values.specs.declared.value.Joiner.{Joiner}
 use Rattle.slot_values.specs.declared.value.Value.{Value}
 use Rattle.slot_values.specs.declared.value.What.{What}
 use Rattle.slot_values.specs.declared.value.What.TheVariants.{Noop, Add, Remove, Body as Says}
@@ -17,7 +16,7 @@ use Rattle.group_rules.specs.declared.answers.Answer.TheVariants.{Committed as C
 use Rattle.group_rules.specs.declared.marks.Cause.{Cause}
 use Rattle.group_rules.specs.declared.marks.Effect.{Effect}
 use Rattle.group_rules.specs.declared.marks.Effect.TheVariants.{Plain, Void, Unread, Positive, Conflict}
-use Rattle.group_rules.specs.Events.{Did, Founds, Starts, Came, Made, Took, Skips, Done, Committed, Is, Gave, Answered, Begun, Changed, Replied, Called, AsksCommit, Ends, Enters, Restores, AskFails, Hears, Ticks, Works, Calls, Operates, Life, Setup, Entry, Cert}
+use Rattle.group_rules.specs.Events.{Founds, Starts, Came, Made, Took, Skips, Done, Committed, Is, Gave, Answered, Begun, Changed, Replied, Called, AsksCommit, Ends, Enters, Restores, AskFails, Hears, Ticks, Works, Calls, Operates, Life, Setup, Entry, Cert}
 use Rattle.group_rules.specs.Names.{Give}
 use Rattle.group_rules.specs.View.{View}
 use Rattle.group_rules.specs.Life.{state, is_up, is_error, is_offline, is_recovering, is_arrival, has_give, view}
@@ -30,11 +29,11 @@ use Rattle.group_lives.specs.Sound.{IsEffect, IsTaking, IsNew, AddsNew}
 use Rattle.group_laws.specs.Entries as law
 use Rattle.group_laws.specs.View as seen
 use Rattle.group_laws.specs.Life as lives
-use Rattle.node_rules.proofs.Incs.{inc_same, inc_is}
-use Rattle.group_lives.specs.Lives.{does_body, does_entry, placed, made_did, did_of, life_of}
+use Rattle.node_rules.proofs.Incs.{inc_same}
+use Rattle.group_lives.specs.Lives.{does_body, does_entry, life_of}
 use Rattle.group_lives.proofs.Taking.{skip_answer, skip_state, skip_made}
 use Rattle.group_lawful.specs.Lived.{LivedDid, Lived}
-use Rattle.group_lawful.specs.Knows.{EndsWithAdd, Sound, SoundAt, AlwaysSound}
+use Rattle.group_lawful.specs.Knows.{Sound, SoundAt, AlwaysSound}
 
 -- ---- ERROR
 

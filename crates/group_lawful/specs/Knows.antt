@@ -15,7 +15,7 @@ use Rattle.group_laws.specs.Entries as law
 use Rattle.group_laws.specs.Life as lives
 use Rattle.group_laws.specs.World.{IsKeptList}
 use Rattle.group_lives.specs.Lives.{life_of}
-use Rattle.group_lives.specs.Sound.{IsTaking, HasSets, HasToldSets, AddsNew}
+use Rattle.group_lives.specs.Sound.{IsTaking, AddsNew}
 
 -- One certified transaction, as a history and as a list has it. A Give doesn't tell the number of its value.
 pub record Alike (c : Cert) (d : law.Cert) : Type 0 where

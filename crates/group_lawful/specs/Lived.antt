@@ -1,5 +1,5 @@
 -- The history of one incarnation of a run, taken by itself: each thing in it is allowed by the history before it.
-use Rattle.std.specs.Prelude.{◌≡◌, ◌⊎◌, ◌<◌, true, false, List, [], ◌∷◌, length}
+use Rattle.std.specs.Prelude.{◌≡◌, ◌⊎◌, ◌<◌, true, false, [], ◌∷◌, length}
 use Rattle.gr_ids.specs.declared.names.Inc.{Inc}
 use Rattle.group_rules.specs.Events.{Did, Founds, Starts, Came, Is, Event, Hears, Life, Setup}
 use Rattle.group_bridge.specs.Left.{IsAfterAll}

@@ -1,9 +1,8 @@
 -- Every run: one log, and each incarnation follows it.
-use Rattle.std.proofs.Common.{eqb, leb, map, ◌≡◌, ◌⊎◌, inl, inr, ℕ, suc, ◌+◌, ◌≤◌, ◌<◌, Bool, true, false, Option, Some, None, List, [], ◌∷◌, append-nil, refl, sym, ap, subst, ◌∙◌, length, take, arith}
-use Rattle.std.specs.Prelude.{◌==◌, ◌&&◌, ◌||◌, not, filter, nat_le}
+use Rattle.std.proofs.Common.{leb, map, ◌≡◌, ◌⊎◌, inl, inr, ℕ, suc, ◌≤◌, ◌<◌, Bool, true, false, Option, Some, None, List, [], ◌∷◌, append-nil, refl, sym, ap, subst, ◌∙◌, length, take, arith}
+use Rattle.std.specs.Prelude.{not, filter, nat_le}
 use Rattle.gtid_sets.specs.Sets.{minus}
 use Rattle.paxos_forms.specs.declared.message.Wire.TheVariants.{Ask as Asks}
-use Rattle.std.specs.List.{list_any}
 use Rattle.std.proofs.lemmas.Bool.{false≢true, cases_Bool, and_parts, eqb-true, leb-true, leb-false}
 use Rattle.gr_ids.specs.Names.{inc_eq, is_inc}
 use Rattle.gr_ids.specs.declared.names.Inc.{Inc}
@@ -21,9 +20,8 @@ use Rattle.node_rules.specs.Chosen.{IsChosenLog}
 use Rattle.node_rules.specs.World as nodes
 use Rattle.order_laws.specs.Laws.{InEveryRun, OneLog, KeptAsInLog, Consecutive, WelcomesFollow, MadeBefore, AddedIn}
 use Rattle.group_rules.specs.Events.{Did, Founds, Starts, Came, Made, Took, Skips, Done, Committed, Is, Gave, Answered, Begun, Changed, Replied, Called, AsksCommit, Ends, Enters, Restores, AskFails, Hears, Life, Setup, Entry, Cert}
-use Rattle.group_rules.specs.Life.{state, is_recovering, executed, view, entered, has_give, entry_at, upto}
-use Rattle.group_rules.specs.View.{seated}
-use Rattle.group_rules.specs.Recovery.{pending_ask, add_place, all_parts, give_of}
+use Rattle.group_rules.specs.Life.{state, is_recovering, executed, entered, has_give, entry_at, upto}
+use Rattle.group_rules.specs.Recovery.{pending_ask, add_place, give_of}
 use Rattle.group_rules.specs.Rows.{known}
 use Rattle.group_rules.specs.Legal.{IsPast, last_slot, WasMade, SameEntry}
 use Rattle.group_rules.specs.Steps.{group_of}

@@ -1,8 +1,8 @@
 -- In every run: the founding, and what is written offline.
-use Rattle.std.proofs.Common.{◌≡◌, ◌⊎◌, inl, inr, ℕ, zero, suc, ◌-◌, Bool, true, false, cond, not, Option, Some, None, List, [], ◌∷◌, ◌++◌, refl, sym, ap, subst, ◌∙◌, length, take, eqb, eq-eqb}
+use Rattle.std.proofs.Common.{◌≡◌, ◌⊎◌, inl, inr, ℕ, suc, ◌-◌, Bool, true, false, cond, Option, Some, None, List, [], ◌∷◌, ◌++◌, refl, sym, ap, subst, ◌∙◌, length, take, eqb, eq-eqb}
 use Rattle.std.specs.Prelude.{◌==◌, ◌||◌, ◌&&◌, is_some, map}
 use Rattle.std.specs.List.{list_any, find}
-use Rattle.std.proofs.lemmas.Bool.{false≢true, cases_Bool, or_left, or_right, eqb-true, and_parts}
+use Rattle.std.proofs.lemmas.Bool.{false≢true, cases_Bool, eqb-true}
 use Rattle.gr_ids.specs.Names.{bytes_eq, inc_eq, has_inc}
 use Rattle.gr_ids.specs.declared.names.Inc.{Inc}
 use Rattle.gr_ids.specs.declared.levels.MemberState.TheVariants.{Online}
@@ -13,7 +13,6 @@ use Rattle.key_items.specs.declared.item.Item.{Item}
 use Rattle.paxos_forms.specs.declared.message.Message.{Message}
 use Rattle.node_rules.specs.Lists.{In}
 use Rattle.node_rules.specs.World as nodes
-use Rattle.node_rules.proofs.Incs.{inc_same}
 use Rattle.group_rules.specs.Events.{Did, Founds, Is, Event, Hears, Ticks, Works, Calls, Operates, Life, Setup, OfflineWrite}
 use Rattle.group_rules.specs.Member.{Member}
 use Rattle.gtid_sets.specs.Sets.{with_gtid}
@@ -21,13 +20,13 @@ use Rattle.group_rules.specs.Steps.{step, found, start}
 use Rattle.group_rules.specs.World.{World, Server, new_world, nothing_stored, server_at, running_of, member_at, runs, is_taken, is_group, is_group_taken, is_declared, has_uuid, is_default_of_other, nothing_happens, put_server, declare, found_at, found_all, started, start_by, stop, stored_by, written, write_by, stepped, event_by, event_at, take_message, kth, dids, happens, Move, Declares, Founds as Founds_, Starts, Stops, WritesRow, Takes, Happens, move, world_after, Past, Does, Writes, Halts, life_in}
 use Rattle.group_rules.specs.World as world
 use Rattle.group_rules.specs.Legal.{IsPast}
-use Rattle.group_runs.specs.Runs.{IsSetup, is_founder, running_in}
+use Rattle.group_runs.specs.Runs.{IsSetup, running_in}
 use Rattle.group_runs.specs.Servers.{IsFounding, FoundedAt, IsWritten, AllWritten, IsMove, OfServers, EveryRunOfServers}
 use Rattle.group_runs.proofs.Servers.{put_cases, number_of}
-use Rattle.group_runs.proofs.Pasts.{past_of_more, life_of_dids, life_of_others}
+use Rattle.group_runs.proofs.Pasts.{past_of_more}
 use Rattle.group_runs.proofs.Inv.{inc_of, Inv}
 use Rattle.group_runs.proofs.Stepped.{Laws}
-use Rattle.group_runs.proofs.Moves.{Sound, sound}
+use Rattle.group_runs.proofs.Moves.{sound}
 use Rattle.group_bridge.specs.Moves.{StepIsActs}
 use Rattle.order_laws.specs.Laws.{HearingTakesNone, HearingGreetsNobody}
 

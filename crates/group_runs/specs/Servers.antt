@@ -1,12 +1,12 @@
 -- What holds of servers in a run: what had happened before the founding, and the rows that are written while a server doesn't run.
-use Rattle.std.specs.Prelude.{◌≡◌, ◌⊎◌, ℕ, Bool, true, false, Option, Some, None, List, [], ◌∷◌}
+use Rattle.std.specs.Prelude.{◌≡◌, ℕ, true, false, Some, None, List, [], ◌∷◌}
 use Rattle.gr_ids.specs.Names.{bytes_eq}
 use Rattle.gr_ids.specs.declared.names.Inc.{Inc}
 use Rattle.gr_ids.specs.declared.levels.MemberState.TheVariants.{Online}
 use Rattle.gtid_sets.specs.Canonical.{IsUuid}
 use Rattle.node_rules.specs.Lists.{In}
-use Rattle.group_rules.specs.Events.{Did, Founds, Is, Setup, OfflineWrite}
-use Rattle.group_rules.specs.World.{World, Move, Declares, world_after, Past, Does, Writes, Halts, life_in}
+use Rattle.group_rules.specs.Events.{Founds, Is, Setup, OfflineWrite}
+use Rattle.group_rules.specs.World.{Move, Declares, world_after, Past, Does, Writes, Halts, life_in}
 use Rattle.group_rules.specs.Legal.{IsPast}
 use Rattle.group_runs.specs.Runs.{IsSetup, is_founder, running_in}
 
