@@ -1,2 +1,3 @@
 pub mod IncOrder
 pub mod ToldMaps
+pub mod ToldLists
