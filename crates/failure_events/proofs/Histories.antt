@@ -9,9 +9,13 @@ use Rattle.slot_values.specs.declared.value.What.TheVariants.{Noop, Add, Remove,
 use Rattle.group_rules.specs.declared.marks.Effect.{Effect}
 use Rattle.group_rules.specs.declared.marks.Effect.TheVariants.{Plain, Void, Unread, Positive, Conflict}
 use Rattle.group_rules.specs.declared.watch.Silence.{Silence}
-use Rattle.group_rules.specs.Events.{AskFails, AsksCommit, Answered, Begun, Called, Calls, Came, Changed, Committed, Did, Done, Ends, Enters, Founds, Gave, Hears, Is, Life, Made, Operates, Replied, Restores, Setup, Skips, Starts, Ticks, Took, Works}
-use Rattle.group_rules.specs.Watch.{Watch, follow, follow_all, gives_up, heard, is_expel_due, is_first, is_lost, is_suspect, leads_by_rank, no_watch, silence_in, suspects, ticked, unfollow, watched}
-use Rattle.failure_events.specs.Watching.{Watches, Watching, capped, is_of_watch, last_count}
+use Rattle.group_rules.specs.Events.{AskFails, AsksCommit, Answered, Begun, Called, Calls, Came, Changed, Committed, Did, Done, Ends, Enters, Founds, Gave, Hears, Is, Life, Made, Operates, Replied, Restores, Setup, Skips, Starts, Ticks, Took, Works, Entry}
+use Rattle.group_rules.specs.Watch.{Watch, follow, follow_all, gives_up, heard, is_expel_due, is_first, is_lost, is_suspect, leads_by_rank, no_watch, silence_in, suspects, ticked, unfollow, watched, watch}
+use Rattle.paxos_forms.specs.declared.welcome.Welcome.{Welcome}
+use Rattle.paxos_forms.specs.declared.welcome.WelcomeMember.{WelcomeMember}
+use Rattle.paxos_forms.specs.declared.message.Message.{Message}
+use Rattle.slot_values.specs.declared.value.Joiner.{Joiner}
+use Rattle.failure_events.specs.Watching.{Watches, Watching, capped, is_of_watch, last_count, first_watch}
 
 abbrev capped_silence : Silence → Silence
 capped_silence x = record x { ticks = min x.ticks last_count }
@@ -164,6 +168,27 @@ none_capped w (i ∷ is) h = none_capped (follow w i) is (sym (follows w i) ∙ 
 
 pub begins_capped : (is : List Inc) → capped (follow_all no_watch is) ≡ follow_all no_watch is
 begins_capped is = none_capped no_watch is (ap (watch_with []) nothing_capped)
+
+-- ---- the watch of a longer history
+
+pub watches_founding : (s : Setup) (me : Inc) → Watches s me (Founds ∷ []) (first_watch me s.limits (map {A = Joiner} (λ j. j.inc) s.founders))
+watches_founding s me = record { is_me = refl; limits = refl; watch = sym (begins_capped (map {A = Joiner} (λ j. j.inc) s.founders)) }
+
+pub watches_welcome : (s : Setup) (me : Inc) (l : Life) (w : Welcome) → Watches s me (Enters w ∷ l) (first_watch me s.limits (map {A = WelcomeMember} (λ m. m.joiner.inc) w.members))
+watches_welcome s me l w = record { is_me = refl; limits = refl; watch = sym (begins_capped (map {A = WelcomeMember} (λ m. m.joiner.inc) w.members)) }
+
+pub watches_tick : (s : Setup) (me : Inc) (l : Life) (x : Watching) → Watches s me l x → Watches s me (Came Ticks ∷ l) (record x { watch = capped (ticked x.me x.watch) })
+watches_tick s me l x f = record {
+  is_me = f.is_me;
+  limits = f.limits;
+  watch = ap (λ (i : Inc). capped (ticked i x.watch)) f.is_me ∙ (ap (λ (w : Watch). capped (ticked me w)) f.watch ∙ ticks me (watch s me l));
+}
+
+pub watches_message : (s : Setup) (me : Inc) (l : Life) (m : Message) (x : Watching) → Watches s me l x → Watches s me (Came (Hears m) ∷ l) (record x { watch = heard x.watch m.from })
+watches_message s me l m x f = record { is_me = f.is_me; limits = f.limits; watch = ap (λ (w : Watch). heard w m.from) f.watch ∙ hears (watch s me l) m.from }
+
+pub watches_entry : (s : Setup) (me : Inc) (l : Life) (e : Entry) (x : Watching) → Watches s me l x → Watches s me (Took e ∷ l) (record x { watch = watched e.value.what e.effect x.watch })
+watches_entry s me l e x f = record { is_me = f.is_me; limits = f.limits; watch = ap (watched e.value.what e.effect) f.watch ∙ watches e.value.what e.effect (watch s me l) }
 
 -- ---- what else happens
 

@@ -2,6 +2,7 @@
 use Rattle.std.specs.Prelude.{◌≡◌, ℕ, not, Option, Some, None, List}
 use Rattle.gr_ids.specs.declared.names.Inc.{Inc}
 use Rattle.gr_ids.specs.declared.names.OpenParts.{OpenParts}
+use Rattle.gtid_sets.specs.Canonical.{IsNumber}
 use Rattle.gtid_sets.specs.declared.told.ToldSet.{ToldSet}
 use Rattle.txn_forms.specs.Bodies.{body_bytes}
 use Rattle.txn_forms.specs.Parts.{is_open}
@@ -9,6 +10,7 @@ use Rattle.txn_forms.specs.declared.body.Body.{Body}
 use Rattle.txn_forms.specs.declared.body.Part.{Part}
 use Rattle.txn_forms.specs.declared.body.Body.TheVariants as body
 use Rattle.group_rules.specs.declared.marks.Effect.{Effect}
+use Rattle.group_rules.specs.declared.marks.Effect.TheVariants.{Positive}
 use Rattle.group_rules.specs.View.{void_if}
 use Rattle.group_rules.specs.Events.{Entry}
 use Rattle.group_rules.specs.Told.{with_told}
@@ -29,6 +31,11 @@ Shows o x (Txn t b) = (x ≡ Some (body.Txn t)) × (b ≡ body_bytes (body.Txn t
 Shows o x (PartHeld void) = (p : Part) × (x ≡ Some (body.Part p)) × (void ≡ not (is_open o p))
 Shows o x (Other b) = (x ≡ Some b) × IsNews b
 Shows o x Nothing = x ≡ None
+
+-- the number of a GTID that is given is one that a GTID may have
+abbrev pub HasNumber : Effect → Type 0
+HasNumber (Positive g) = IsNumber g.number
+HasNumber e = Unit {0}
 
 -- what is answered of an entry
 pub record IsEntered (o : Option OpenParts) (e : Entry) (x : Entered) : Type 0 where

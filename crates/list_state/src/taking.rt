@@ -4,8 +4,8 @@ ghost use Rattle.gr_ids.specs.declared.memory.Memory.{Memory};
 ghost use Rattle.name_forms.specs.Incs.{IsInc};
 ghost use Rattle.group_rules.specs.View.{online_incs, void_if};
 ghost use Rattle.group_rules.specs.Told.{stable_of, with_told};
-ghost use Rattle.certifier.specs.Certifying.{effect_of, without_stable};
-ghost use Rattle.list_state.specs.Holding.{IsEntered, certified_held, effect_held, told_held};
+ghost use Rattle.certifier.specs.Certifying.{HasNumber as IsNumbered, effect_of, without_stable};
+ghost use Rattle.list_state.specs.Holding.{HasNumber, IsEntered, certified_held, effect_held, told_held};
 ghost use Rattle.list_state.specs.Listing.{entry_next, open_of, with_entry};
 
 use crate::entered::Entered;
@@ -35,6 +35,7 @@ impl ListState {
         requires room { self.old.taken < 2 ^ 42 }
         requires origin { IsInc value.now.id.origin }
         ensures entered { IfOk result (λ x. (t : ℕ) → IsEntered (open_of self.old value.now) (entry_next self.old t has_effect value.now) x) }
+        ensures number { IfOk result (λ x. HasNumber x.effect) }
         ensures made { OnOk result ((t : ℕ) → self.new ≡ with_entry (entry_next self.old t has_effect value.now) self.old) }
     {
         self.taken += 1;
@@ -64,7 +65,9 @@ fn certify_held(
     held: &Held,
     seen: Effect,
 ) -> Result<Effect, Memory>
-    requires { certifier.old.certified.blocks < 2 ^ 42 }
+    requires few { certifier.old.certified.blocks < 2 ^ 42 }
+    requires seen { HasNumber seen }
+    ensures number { IfOk result HasNumber }
     ensures effect { IfOk result (λ e. e ≡ effect_held certifier.old origin held.now seen) }
     ensures ok { OnOk result (certifier.new ≡ certified_held place origin held.now certifier.old) }
     ensures err { OnErr result (certifier.new ≡ certifier.old) }
@@ -77,7 +80,9 @@ fn certify_held(
 }
 
 fn effect_by(verdict: Verdict) -> Effect
-    ensures { result ≡ effect_of verdict }
+    requires { IsNumbered verdict }
+    ensures effect { result ≡ effect_of verdict }
+    ensures number { HasNumber result }
 {
     match verdict {
         Verdict::Positive(gtid) => Effect::Positive(gtid),

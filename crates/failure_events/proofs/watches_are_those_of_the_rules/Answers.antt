@@ -5,27 +5,23 @@ use Rattle.slot_values.specs.declared.value.Joiner.{Joiner}
 use Rattle.paxos_forms.specs.declared.welcome.WelcomeMember.{WelcomeMember}
 use Rattle.group_rules.specs.Watch.{Watch, heard, gives_up, is_expel_due, leads_by_rank, suspects, ticked, watch, watched}
 use Rattle.failure_events.specs.Watching.{capped}
-use Rattle.failure_events.proofs.Histories.{begins_capped, hears, passes, same_expulsions, same_lead, same_losses, same_suspects, ticks, watches}
+use Rattle.failure_events.proofs.Histories.{passes, same_expulsions, same_lead, same_losses, same_suspects, watches_entry, watches_founding, watches_message, watches_tick, watches_welcome}
 use Rattle.failure_events.proofs.watches_are_those_of_the_rules.Goals as goal
 
 pub returns-clause-founded : goal.returns-clause-founded
-returns-clause-founded c = λ s me. record { is_me = refl; limits = refl; watch = sym (begins_capped (map {A = Joiner} (λ j. j.inc) s.founders)) }
+returns-clause-founded c = watches_founding
 
 pub returns-clause-welcomed : goal.returns-clause-welcomed
-returns-clause-welcomed c = λ s me l w. record { is_me = refl; limits = refl; watch = sym (begins_capped (map {A = WelcomeMember} (λ m. m.joiner.inc) w.members)) }
+returns-clause-welcomed c = watches_welcome
 
 pub returns-clause-ticked : goal.returns-clause-ticked
-returns-clause-ticked c = λ s me l x f. record {
-  is_me = f.is_me;
-  limits = f.limits;
-  watch = ap (λ (i : Inc). capped (ticked i x.watch)) f.is_me ∙ (ap (λ (w : Watch). capped (ticked me w)) f.watch ∙ ticks me (watch s me l));
-}
+returns-clause-ticked c = watches_tick
 
 pub returns-clause-heard : goal.returns-clause-heard
-returns-clause-heard c = λ s me l m x f. record { is_me = f.is_me; limits = f.limits; watch = ap (λ (w : Watch). heard w m.from) f.watch ∙ hears (watch s me l) m.from }
+returns-clause-heard c = watches_message
 
 pub returns-clause-taken : goal.returns-clause-taken
-returns-clause-taken c = λ s me l e x f. record { is_me = f.is_me; limits = f.limits; watch = ap (watched e.value.what e.effect) f.watch ∙ watches e.value.what e.effect (watch s me l) }
+returns-clause-taken c = watches_entry
 
 pub returns-clause-passed : goal.returns-clause-passed
 returns-clause-passed c = passes

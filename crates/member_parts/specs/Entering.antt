@@ -1,0 +1,18 @@
+-- What an entry does to the donor of a member, by what is answered of it.
+use Rattle.std.specs.Prelude.{ℕ, List, fold}
+use Rattle.gr_ids.specs.declared.names.Inc.{Inc}
+use Rattle.paxos_forms.specs.declared.recovery.Given.{Given}
+use Rattle.group_rules.specs.declared.marks.Effect.{Effect}
+use Rattle.group_rules.specs.declared.marks.Effect.TheVariants.{Positive}
+use Rattle.donor_recovery.specs.Donating.{Donating, with_given}
+use Rattle.list_state.specs.declared.held.Held.{Held}
+use Rattle.list_state.specs.declared.held.Held.TheVariants.{Txn}
+
+-- a certified transaction is kept, with its bytes
+abbrev pub given_by : ℕ → Inc → Effect → Held → Donating → Donating
+given_by p m (Positive g) (Txn t b) d = record d { certified = with_given d.certified (record { place = p; origin = m; gtid = g; body = b }) }
+given_by p m f h d = d
+
+-- transactions that a Give brought, one after another
+abbrev pub with_all : List Given → List Given → List Given
+with_all gs xs = fold with_given gs xs
