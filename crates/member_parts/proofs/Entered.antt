@@ -21,7 +21,7 @@ use Rattle.gr_ids.specs.declared.names.ValueId.{ValueId}
 use Rattle.donor_recovery.specs.declared.at_add.AtAdd.{AtAdd}
 use Rattle.donor_recovery.specs.Donating.{Donating, no_adds, with_given}
 use Rattle.donor_recovery.specs.Laws.{Donates, add_of, after_entry, marked_if, with_cert_given, with_certs}
-use Rattle.donor_recovery.proofs.Donors.{passes, takes, restores as donor_restores}
+use Rattle.donor_recovery.proofs.Donors.{same_with, passes, takes, restores as donor_restores}
 use Rattle.failure_events.specs.Watching.{Watching, Watches, capped, first_watch}
 use Rattle.failure_events.proofs.Histories.{watches_welcome, watches_entry, watches_founding, watches_message, watches_tick, begins_capped, passes as watch_passes}
 use Rattle.list_state.specs.declared.entered.Entered.{Entered}
@@ -41,7 +41,7 @@ use Rattle.paxos_forms.specs.declared.recovery.Given.{Given}
 use Rattle.paxos_forms.specs.Gives.{IsGive}
 use Rattle.donor_recovery.specs.Asking.{at_add}
 use Rattle.member_parts.specs.declared.parts.MemberParts.{MemberParts}
-use Rattle.member_parts.specs.Entering.{given_by, with_all}
+use Rattle.member_parts.specs.Entering.{all_back, given_by, with_all}
 use Rattle.member_parts.specs.Standing.{StandsFor}
 
 -- ---- the certified transaction
@@ -153,11 +153,16 @@ stands_message s me l m x w f e = record {
 
 -- ---- a joiner
 
-pub stands_start : (s : Setup) (me : Inc) (y : Stored) (x : MemberParts) → Follows s (Starts y ∷ []) x.list → x.watch ≡ first_watch me s.limits [] → x.donor ≡ no_adds → y.committed ≡ [] → StandsFor s me (Starts y ∷ []) x
-stands_start s me y x f ew ed n = record {
+all_known : (cs : List Cert) → all_back [] (map given_of cs) ≡ map given_of (all_in [] cs)
+all_known [] = refl
+all_known (c ∷ cs) = ap (λ (gs : List Given). with_given gs (given_of c)) (all_known cs) ∙ sym (same_with (all_in [] cs) c)
+
+pub stands_start : (s : Setup) (me : Inc) (y : Stored) (ts : List Given) (x : MemberParts) → Follows s (Starts y ∷ []) x.list → x.watch ≡ first_watch me s.limits [] → x.donor ≡ record no_adds { certified = all_back [] ts } → ts ≡ map given_of y.committed
+    → StandsFor s me (Starts y ∷ []) x
+stands_start s me y ts x f ew ed et = record {
   list = f;
   watch = subst (λ (z : Watching). Watches s me (Starts y ∷ []) z) (sym ew) (record { is_me = refl; limits = refl; watch = sym (begins_capped []) });
-  donor = subst (λ (z : Donating). Donates s (Starts y ∷ []) z) (sym ed) (record { certified = sym (ap (λ (cs : List Cert). map given_of (all_in [] cs)) n); adds = λ p. refl });
+  donor = subst (λ (z : Donating). Donates s (Starts y ∷ []) z) (sym ed) (record { certified = ap (all_back []) et ∙ all_known y.committed; adds = λ p. refl });
   places = λ p h. refl;
 }
 

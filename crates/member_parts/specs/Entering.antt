@@ -1,5 +1,5 @@
 -- What an entry does to the donor of a member, by what is answered of it.
-use Rattle.std.specs.Prelude.{ℕ, List, fold}
+use Rattle.std.specs.Prelude.{ℕ, List, [], ◌∷◌, fold}
 use Rattle.gr_ids.specs.declared.names.Inc.{Inc}
 use Rattle.paxos_forms.specs.declared.recovery.Given.{Given}
 use Rattle.group_rules.specs.declared.marks.Effect.{Effect}
@@ -16,3 +16,8 @@ given_by p m f h d = d
 -- transactions that a Give brought, one after another
 abbrev pub with_all : List Given → List Given → List Given
 with_all gs xs = fold with_given gs xs
+
+-- transactions that were committed before, the last one first
+abbrev pub all_back : List Given → List Given → List Given
+all_back gs [] = gs
+all_back gs (x ∷ xs) = with_given (all_back gs xs) x

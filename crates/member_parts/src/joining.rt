@@ -11,7 +11,7 @@ ghost use Rattle.group_rules.specs.Recovery.{given_of};
 ghost use Rattle.donor_recovery.specs.Asking.{at_add};
 ghost use Rattle.donor_recovery.specs.Donating.{HasNumber};
 ghost use Rattle.list_state.specs.Joining.{FitsPlace};
-ghost use Rattle.member_parts.specs.Entering.{with_all};
+ghost use Rattle.member_parts.specs.Entering.{all_back, with_all};
 ghost use Rattle.member_parts.specs.Standing.{StandsFor};
 
 use crate::parts::MemberParts;
@@ -23,16 +23,25 @@ use paxos_forms::{Given, Welcome, WelcomeMember};
 use std::alloc::Global;
 
 impl MemberParts {
-    /// Those of a joiner before its Welcome. The size of a block is 1 to 1,000,000.
-    pub fn joining(alloc: Global, me: Inc, limits: Limits) -> Result<MemberParts, Memory>
+    /// Those of a joiner before its Welcome: its server has these committed transactions. The size of a block is 1 to 1,000,000. Linear in
+    /// their bytes, and in their number for each one whose place isn't below those behind it.
+    pub fn joining(
+        alloc: Global,
+        me: Inc,
+        limits: Limits,
+        committed: &[Given],
+    ) -> Result<MemberParts, Memory>
         requires least { 1 ≤ limits.block }
         requires most { limits.block ≤ 1000000 }
-        ensures { IfOk result (λ x. (s : Setup) (y : Stored) → s.limits ≡ limits → y.committed ≡ [] → StandsFor s me (Starts y ∷ []) x) }
+        requires numbers { All HasNumber committed.now }
+        ensures { IfOk result (λ x. (s : Setup) (y : Stored) → s.limits ≡ limits → committed.now ≡ map given_of y.committed → StandsFor s me (Starts y ∷ []) x) }
     {
+        let mut donor = Donor::new(alloc);
+        keep_back(&mut donor, alloc, committed)?;
         Ok(MemberParts {
             list: ListState::joining(alloc, limits),
             watch: Watch::new(alloc, me, &[], limits)?,
-            donor: Donor::new(alloc),
+            donor,
         })
     }
 
@@ -87,6 +96,19 @@ fn keep_all(donor: &mut Donor, alloc: Global, txns: &[Given]) -> Result<(), Memo
 {
     for given in txns {
         donor.certified(copied(alloc, given)?)?;
+    }
+    Ok(())
+}
+
+// Each of these is certified, the last one first.
+fn keep_back(donor: &mut Donor, alloc: Global, txns: &[Given]) -> Result<(), Memory>
+    requires { All HasNumber txns.now }
+    ensures { OnOk result (donor.new ≡ record donor.old { certified = all_back donor.old.certified txns.now }) }
+{
+    let mut at = txns.len();
+    while at > 0 {
+        at -= 1;
+        donor.certified(copied(alloc, &txns[at])?)?;
     }
     Ok(())
 }
