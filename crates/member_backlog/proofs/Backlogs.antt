@@ -1,8 +1,14 @@
 -- What is pending, thing by thing.
-use Rattle.std.proofs.Common.{◌≡◌, ℕ, Bool, true, false, ◌&&◌, ◌||◌, not, List, [], ◌∷◌, ◌++◌, map, refl, sym, ap, ◌∙◌}
-use Rattle.std.specs.Prelude.{filter, reverse, nat_lt, if◌then◌else◌}
+use Rattle.std.proofs.Common.{◌≡◌, ℕ, Bool, true, false, ◌&&◌, ◌||◌, not, List, [], ◌∷◌, ◌++◌, map, refl, sym, ap, ◌∙◌, Option, Some, None}
+use Rattle.std.specs.Prelude.{filter, reverse, nat_lt, if◌then◌else◌, option_to_list}
 use Rattle.std.specs.List.{list_all}
-use Rattle.std.proofs.lemmas.List.{reverse-append}
+use Rattle.std.proofs.lemmas.List.{reverse-append, reverse-reverse}
+use Rattle.paxos_forms.specs.declared.recovery.Give.{Give}
+use Rattle.txn_forms.specs.declared.body.Body.{Body}
+use Rattle.txn_forms.specs.declared.body.Body.TheVariants as body
+use Rattle.group_rules.specs.declared.marks.Effect.{Effect}
+use Rattle.group_rules.specs.declared.marks.Effect.TheVariants.{Plain, Void, Unread, Positive, Conflict}
+use Rattle.gr_ids.specs.declared.names.ValueId.{ValueId}
 use Rattle.std.proofs.lemmas.List.Elements.{filter-append}
 use Rattle.gr_ids.specs.declared.names.Gtid.{Gtid}
 use Rattle.gr_ids.specs.Names.{gtid_eq}
@@ -13,7 +19,7 @@ use Rattle.gtid_sets.proofs.PutLemmas.{canonical_with_gtid}
 use Rattle.group_rules.specs.Events.{AskFails, AsksCommit, Answered, Begun, Called, Came, Cert, Changed, Committed, Did, Done, Ends, Enters, Entry, Founds, Gave, Is, Life, Made, Replied, Restores, Skips, Starts, Took}
 use Rattle.group_rules.specs.Holds.{standing, standing_of}
 use Rattle.group_rules.specs.declared.holds.Pending.{Pending}
-use Rattle.group_rules.specs.Life.{cert_of, certs, executed}
+use Rattle.group_rules.specs.Life.{cert_of, certs, executed, cert_by}
 use Rattle.group_rules.specs.Queue.{all_below, pending}
 use Rattle.member_backlog.specs.Standing.{Waits, is_of_backlog, uncommitted_of}
 use Rattle.member_backlog.specs.Waiting.{Uncommitted, is_clear, pending_of, with_certified, without_committed}
@@ -83,6 +89,44 @@ commits l g us w u n =
       waiting = ap (without_committed t) w.waiting ∙ (same_left t (pending l) ∙ ap (map uncommitted_of) (twice s t (reverse (certs l)) (λ m h. grows s g m w.set u n h)));
       set = canonical_with_gtid s g u n w.set;
     }
+
+-- ---- a Give
+
+pub restores : (l : Life) (g : Give) (cs : List Cert) (us : List Uncommitted) → Waits l us → Waits (Restores g cs ∷ l) (without_committed (executed l) (map uncommitted_of cs))
+restores l g cs us w = record { waiting = same_left (executed l) cs ∙ ap (λ (ds : List Cert). map uncommitted_of (filter (lacks (executed l)) ds)) (sym (reverse-reverse cs)); set = w.set }
+
+-- ---- any entry
+
+abbrev first_cert : List Cert → Option Cert
+first_cert [] = None
+first_cert (c ∷ cs) = Some c
+
+few : (p : ℕ) (i : ValueId) (f : Effect) (y : Option Body) → cert_by p i f y ≡ option_to_list (first_cert (cert_by p i f y))
+few p i (Positive g) (Some (body.Txn t)) = refl
+few p i (Positive g) (Some (body.Prepared h)) = refl
+few p i (Positive g) (Some body.Sync) = refl
+few p i (Positive g) (Some (body.Executed s)) = refl
+few p i (Positive g) (Some (body.Online s)) = refl
+few p i (Positive g) (Some (body.Mode m)) = refl
+few p i (Positive g) (Some (body.Primary j)) = refl
+few p i (Positive g) (Some (body.Part q)) = refl
+few p i (Positive g) None = refl
+few p i (Conflict g) y = refl
+few p i Plain y = refl
+few p i Void y = refl
+few p i Unread y = refl
+
+abbrev pub with_certs_waiting : Gtids → List Cert → List Uncommitted → List Uncommitted
+with_certs_waiting e [] us = us
+with_certs_waiting e (c ∷ cs) us = with_certified e us (uncommitted_of c)
+
+-- an entry certifies one transaction or none
+pub takes : (l : Life) (e : Entry) (us : List Uncommitted) → Waits l us → Waits (Took e ∷ l) (with_certs_waiting (executed l) (cert_of e) us)
+takes l e us w = go (cert_of e) refl (few e.place e.value.id e.effect e.holds)
+  where
+    go : (cs : List Cert) → cert_of e ≡ cs → cert_of e ≡ option_to_list (first_cert (cert_of e)) → Waits (Took e ∷ l) (with_certs_waiting (executed l) cs us)
+    go [] n f = takes_none l e us w n
+    go (c ∷ cs) n f = takes_one l e c us w (f ∙ ap (λ (ds : List Cert). option_to_list (first_cert ds)) n)
 
 -- ---- what is told
 

@@ -35,6 +35,19 @@ impl Backlog {
         }
     }
 
+    /// The transactions that a donor gave, but for those that are committed already. Linear in them, besides the looks into the set.
+    pub fn restore(
+        alloc: Global,
+        executed: &GtidSet,
+        certified: &[Uncommitted],
+    ) -> Result<Backlog, Memory>
+        ensures { IfOk result (λ backlog. backlog ≡ without_committed executed.now certified.now) }
+    {
+        Ok(Backlog {
+            waiting: uncommitted_from(alloc, executed, certified)?,
+        })
+    }
+
     /// A transaction is certified, at a place above those before; it doesn't wait where it is committed already. Takes constant time, seen
     /// over many, besides the look into the set.
     pub fn certify(&mut self, executed: &GtidSet, certified: Uncommitted) -> Result<(), Memory>
@@ -75,6 +88,22 @@ impl Backlog {
     {
         self.waiting.iter().all(|waiting| !(waiting.place < place))
     }
+}
+
+fn uncommitted_from(
+    alloc: Global,
+    executed: &GtidSet,
+    certified: &[Uncommitted],
+) -> Result<Vec<Uncommitted>, Memory>
+    ensures { IfOk result (λ v. v.items ≡ without_committed executed.now certified.now) }
+{
+    Ok(
+        certified
+            .iter()
+            .filter(|one| !executed.contains(one.gtid))
+            .copied()
+            .collect(alloc)?,
+    )
 }
 
 fn keep_uncommitted(waiting: &mut Vec<Uncommitted>, executed: &GtidSet)

@@ -1,4 +1,4 @@
-// What an entry does to the watch and to the donor.
+// What an entry does to the watch, the donor and the backlog.
 ghost use Rattle.std.specs.Prelude.{◌≡◌, OnOk};
 ghost use Rattle.gr_ids.specs.declared.memory.Memory.{Memory};
 ghost use Rattle.group_rules.specs.Recovery.{is_add};
@@ -6,13 +6,15 @@ ghost use Rattle.group_rules.specs.Watch.{watched};
 ghost use Rattle.donor_recovery.specs.Laws.{marked_if};
 ghost use Rattle.list_state.specs.Holding.{HasNumber};
 ghost use Rattle.list_state.specs.Joining.{add_here};
-ghost use Rattle.member_parts.specs.Entering.{given_by};
+ghost use Rattle.member_parts.specs.Entering.{given_by, waiting_by};
 
 use donor_recovery::Donor;
 use failure_events::Watch;
-use gr_ids::{Inc, Memory};
+use gr_ids::{Inc, Memory, ValueId};
 use group_rules::Effect;
+use gtid_sets::GtidSet;
 use list_state::{Entered, Held, ListState};
+use member_backlog::{Backlog, Uncommitted};
 use paxos_forms::Given;
 use slot_values::What;
 use std::alloc::Global;
@@ -64,6 +66,30 @@ pub(crate) fn mark_add(
 {
     match (what, effect) {
         (What::Add(_), Effect::Plain) => donor.mark(list.at_add(alloc)?),
+        _ => Ok(()),
+    }
+}
+
+/// A certified transaction waits to be committed, unless it is so already.
+pub(crate) fn await_certified(
+    backlog: &mut Backlog,
+    executed: &GtidSet,
+    id: ValueId,
+    entered: &Entered,
+) -> Result<(), Memory>
+    ensures { OnOk result (backlog.new ≡ waiting_by executed.now entered.now.place id entered.now.effect entered.now.held backlog.old) }
+{
+    match (&entered.effect, &entered.held) {
+        (Effect::Positive(gtid), Held::Txn(txn, _)) => {
+            let place = entered.place;
+            let certified = Uncommitted {
+                place,
+                id,
+                gtid: *gtid,
+                after: txn.after,
+            };
+            backlog.certify(executed, certified)
+        }
         _ => Ok(()),
     }
 }

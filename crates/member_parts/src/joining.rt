@@ -6,11 +6,13 @@ ghost use Rattle.gr_ids.specs.declared.names.Inc.{Inc as Member};
 ghost use Rattle.paxos_forms.specs.Gives.{IsGive};
 ghost use Rattle.paxos_forms.specs.declared.recovery.Give.{Give as AnyGive};
 ghost use Rattle.group_rules.specs.Events.{Cert, Enters, Life, Restores, Setup, Starts, Stored};
-ghost use Rattle.group_rules.specs.Life.{certs};
+ghost use Rattle.group_rules.specs.Life.{certs, executed as executed_by};
 ghost use Rattle.group_rules.specs.Recovery.{given_of};
 ghost use Rattle.donor_recovery.specs.Asking.{at_add};
 ghost use Rattle.donor_recovery.specs.Donating.{HasNumber};
 ghost use Rattle.list_state.specs.Joining.{FitsPlace};
+ghost use Rattle.gtid_sets.specs.Canonical.{IsCanonical};
+ghost use Rattle.member_backlog.specs.Standing.{uncommitted_of};
 ghost use Rattle.member_parts.specs.Entering.{all_back, with_all};
 ghost use Rattle.member_parts.specs.Standing.{StandsFor};
 
@@ -18,7 +20,9 @@ use crate::parts::MemberParts;
 use donor_recovery::{AtAdd, Donor};
 use failure_events::Watch;
 use gr_ids::{Inc, Limits, Memory};
+use gtid_sets::GtidSet;
 use list_state::ListState;
+use member_backlog::{Backlog, Uncommitted};
 use paxos_forms::{Given, Welcome, WelcomeMember};
 use std::alloc::Global;
 
@@ -34,7 +38,8 @@ impl MemberParts {
         requires least { 1 ≤ limits.block }
         requires most { limits.block ≤ 1000000 }
         requires numbers { All HasNumber committed.now }
-        ensures { IfOk result (λ x. (s : Setup) (y : Stored) → s.limits ≡ limits → committed.now ≡ map given_of y.committed → StandsFor s me (Starts y ∷ []) x) }
+        ensures { IfOk result (λ x. (s : Setup) (y : Stored) → s.limits ≡ limits → committed.now ≡ map given_of y.committed → IsCanonical y.executed
+            → StandsFor s me (Starts y ∷ []) x) }
     {
         let mut donor = Donor::new(alloc);
         keep_back(&mut donor, alloc, committed)?;
@@ -42,6 +47,7 @@ impl MemberParts {
             list: ListState::joining(alloc, limits),
             watch: Watch::new(alloc, me, &[], limits)?,
             donor,
+            backlog: Backlog::new(alloc),
         })
     }
 
@@ -65,14 +71,22 @@ impl MemberParts {
     }
 
     /// A joiner takes up what its donor gave: what stood at the place of its Add, and the certified transactions that it lacks, by ascending
-    /// place. It has certified none before. Logarithmic in what was given, for each thing, and linear in the transactions' bytes.
-    pub fn restore(&mut self, alloc: Global, at: AtAdd, txns: &[Given]) -> Result<(), Memory>
+    /// place, each with its bytes and as it is to wait; `executed` is what it has executed. It has certified none before. Logarithmic in what was given, for each thing, and linear in the transactions' bytes.
+    pub fn restore(
+        &mut self,
+        alloc: Global,
+        executed: &GtidSet,
+        at: AtAdd,
+        txns: &[Given],
+        certified: &[Uncommitted],
+    ) -> Result<(), Memory>
         requires fits { FitsPlace self.old.list.taken self.old.list.limits.block at }
         requires numbers { All HasNumber txns.now }
         ensures { OnOk result ((s : Setup) (me : Member) (l : Life) (g : AnyGive) (cs : List Cert) → IsGive g → at ≡ at_add g → txns.now ≡ map given_of cs
-            → certs l ≡ [] → StandsFor s me l self.old → StandsFor s me (Restores g cs ∷ l) self.new) }
+            → certified.now ≡ map uncommitted_of cs → executed.now ≡ executed_by l → certs l ≡ [] → StandsFor s me l self.old → StandsFor s me (Restores g cs ∷ l) self.new) }
     {
         keep_all(&mut self.donor, alloc, txns)?;
+        self.backlog = Backlog::restore(alloc, executed, certified)?;
         self.list.restore(alloc, at)?;
         Ok(())
     }

@@ -3,28 +3,34 @@ ghost use Rattle.std.specs.Prelude.{◌≡◌, ◌<◌, ◌≤◌, ◌^◌, ◌�
 ghost use Rattle.gr_ids.specs.declared.memory.Memory.{Memory};
 ghost use Rattle.gr_ids.specs.declared.names.Inc.{Inc as Member};
 ghost use Rattle.name_forms.specs.Incs.{IsInc};
-ghost use Rattle.group_rules.specs.Events.{Came, Founds, Hears, Life, Setup, Ticks, Took};
-ghost use Rattle.group_rules.specs.Life.{taken};
+ghost use Rattle.group_rules.specs.Events.{Came, Founds, Hears, Life, Setup, Ticks, Took, Committed};
+ghost use Rattle.group_rules.specs.Life.{taken, executed as executed_by};
 ghost use Rattle.group_rules.specs.Parts.{open_parts};
 ghost use Rattle.group_rules.specs.Taking.{entry_of};
 ghost use Rattle.paxos_forms.specs.declared.message.Message.{Message as AnyMessage};
 ghost use Rattle.list_state.specs.Holding.{IsEntered};
+ghost use Rattle.gtid_sets.specs.Sets.{with_gtid};
+ghost use Rattle.gtid_sets.specs.Canonical.{IsNumber, IsUuid};
+ghost use Rattle.gr_ids.specs.declared.names.Gtid.{Gtid as AnyGtid};
 ghost use Rattle.member_parts.specs.Standing.{StandsFor};
 
-use crate::entering::{give_certified, mark_add, watch_entry};
+use crate::entering::{await_certified, give_certified, mark_add, watch_entry};
 use donor_recovery::Donor;
 use failure_events::Watch;
 use gr_ids::{Inc, Limits, Memory, Mode};
+use gtid_sets::GtidSet;
 use list_state::{Entered, ListState};
+use member_backlog::Backlog;
 use slot_values::{Joiner, Value};
 use std::alloc::Global;
 
-/// What the list has made at a member, its watch of the others, and what it keeps as a donor.
+/// What the list has made at a member, its watch of the others, what it keeps as a donor, and what waits to be committed.
 #[derive(Debug, Drop)]
 pub struct MemberParts {
     pub(crate) list: ListState,
     pub(crate) watch: Watch,
     pub(crate) donor: Donor,
+    pub(crate) backlog: Backlog,
 }
 
 impl MemberParts {
@@ -45,6 +51,7 @@ impl MemberParts {
             list: ListState::founded(alloc, founders, mode, limits)?,
             watch: Watch::new(alloc, me, &members, limits)?,
             donor: Donor::new(alloc),
+            backlog: Backlog::new(alloc),
         })
     }
 
@@ -63,12 +70,21 @@ impl MemberParts {
         self.watch.heard(from);
     }
 
-    /// Takes the value of the next place; whether an Add or a Remove has effect is known from the kept list. Places end at 2^42. After
+    /// A transaction is committed, which the executed set has now. Linear in those that wait; takes no memory.
+    pub fn settle(&mut self, executed: &GtidSet)
+        ensures { (s : Setup) (me : Member) (l : Life) (g : AnyGtid) → executed.now ≡ with_gtid (executed_by l) g → IsUuid g.source → IsNumber g.number
+            → StandsFor s me l self.old → StandsFor s me (Committed g ∷ l) self.new }
+    {
+        self.backlog.settle(executed);
+    }
+
+    /// Takes the value of the next place, `executed` being what is executed here; whether an Add or a Remove has effect is known from the kept list. Places end at 2^42. After
     /// want of memory some of it may be done: the member stops. Linear in the members and in the value's bytes, besides what
     /// certification and forgetting take; at an Add linear in the kept items too.
     pub fn take(
         &mut self,
         alloc: Global,
+        executed: &GtidSet,
         value: &Value,
         has_effect: bool,
     ) -> Result<Entered, Memory>
@@ -76,7 +92,7 @@ impl MemberParts {
         requires origin { IsInc value.now.id.origin }
         ensures entered { IfOk result (λ x. (s : Setup) (me : Member) (l : Life) (t : ℕ) → StandsFor s me l self.old
             → IsEntered (open_parts l value.now.id.origin) (entry_of s l t (suc (taken l)) has_effect value.now) x) }
-        ensures taken { OnOk result ((s : Setup) (me : Member) (l : Life) (t : ℕ) → StandsFor s me l self.old
+        ensures taken { OnOk result ((s : Setup) (me : Member) (l : Life) (t : ℕ) → executed.now ≡ executed_by l → StandsFor s me l self.old
             → StandsFor s me (Took (entry_of s l t (suc (taken l)) has_effect value.now) ∷ l) self.new) }
     {
         let entered = self.list.take(alloc, value, has_effect)?;
@@ -89,6 +105,7 @@ impl MemberParts {
             &value.what,
             entered.effect,
         )?;
+        await_certified(&mut self.backlog, executed, value.id, &entered)?;
         Ok(entered)
     }
 
@@ -104,6 +121,13 @@ impl MemberParts {
         ensures { result.now ≡ self.now.watch }
     {
         &self.watch
+    }
+
+    /// What waits to be committed.
+    pub fn backlog(&self) -> &Backlog
+        ensures { result.now ≡ self.now.backlog }
+    {
+        &self.backlog
     }
 
     /// The donor.

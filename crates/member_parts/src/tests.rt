@@ -41,7 +41,7 @@ fn take(rt: &impl Abort, alloc: Global, parts: &mut MemberParts, what: What) -> 
         },
         what,
     };
-    let _ = parts.take(alloc, &value, true)?;
+    let _ = parts.take(alloc, &GtidSet::new(alloc), &value, true)?;
     Ok(())
 }
 
