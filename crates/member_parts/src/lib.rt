@@ -2,6 +2,7 @@
 #![tactic(auto)]
 
 mod entering;
+mod giving;
 mod joining;
 mod parts;
 #[cfg(test)]

@@ -62,7 +62,7 @@ fn an_add_is_watched_and_served(rt: HostRuntime) -> Result<(), Fail> {
         place: Pos(2),
         executed: GtidSet::new(alloc),
     };
-    let give = parts.donor().give(alloc, &ask)?;
+    let give = parts.give(alloc, &ask)?;
     assert_eq!(rt; give.txns.as_slice().len(), 1);
     assert_eq!(rt; give.blocks, 1);
     take(&rt, alloc, &mut parts, What::Remove(joiner(2).inc))?;
