@@ -1,11 +1,13 @@
 -- A positive transaction: the blocks taken, the last numbers and the items after it.
-use Rattle.std.proofs.Common.{◌≡◌, ℕ, suc, ◌+◌, ◌*◌, ◌%◌, ◌≤◌, ◌<◌, ◌⊎◌, inl, inr, Bool, true, false, cond, Option, Some, None, List, refl, sym, ap, subst, ◌∙◌, arith, eqb}
+use Rattle.std.proofs.Common.{◌≡◌, ℕ, suc, ◌+◌, ◌*◌, ◌%◌, ◌≤◌, ◌<◌, ◌^◌, ◌⊎◌, inl, inr, Bool, true, false, cond, Option, Some, None, List, refl, sym, ap, subst, ◌∙◌, arith, eqb}
 use Rattle.std.specs.Prelude.{if◌then◌else◌, option_map, is_some, IsSome, IfSome}
 use Rattle.std.specs.Map.{lookup}
 use Rattle.std.specs.BTreeMap.{BTreeMap, IsOrdered, Updates, get, is_at}
 use Rattle.std.specs.Ordering.{is_eq}
 use Rattle.std.proofs.lemmas.Map.Lookups.{btree_map_from_get}
 use Rattle.std.proofs.lemmas.Bool.{eqb-false, eq-eqb}
+use Rattle.std.proofs.lemmas.Nat.{mul-le}
+use Rattle.gtid_sets.specs.Canonical.{IsNumber}
 use Rattle.std.proofs.Math.Nat.{eq-or-lt_of_le, mul-add-mod_self_right, mul-mod_left, suc-mul}
 use Rattle.gr_ids.specs.declared.names.Inc.{Inc}
 use Rattle.gr_ids.specs.declared.names.Gtid.{Gtid}
@@ -111,3 +113,19 @@ undone i was mid now n before e u b o p = btree_map_from_get inc_cmp_total now w
             let same : i ≡ q = inc_is i q (inc_eq_cmp i q ∙ f) in
             h ∙ (ap (λ c. cond c before (get inc_cmp mid q)) f ∙ (e ∙ ap (get inc_cmp was) same))
         go false f h k = h ∙ (ap (λ c. cond c before (get inc_cmp mid q)) f ∙ (k ∙ ap (λ c. cond c (Some n) (get inc_cmp was q)) f))
+
+-- ---- a number that a GTID may have
+
+at_least_one : (b q : ℕ) (o : Option ℕ) → 1 ≤ number_after b q o
+at_least_one b q None = omega arith
+at_least_one b q (Some n) = go (eqb (n % b) 0) refl
+  where
+    go : (u : Bool) → eqb (n % b) 0 ≡ u → 1 ≤ number_after b q (Some n)
+    go true f = rw f (omega arith)
+    go false f = rw f (omega arith)
+
+pub fits : (b q : ℕ) (o : Option ℕ) → 1 ≤ b → b ≤ 1000000 → q < 2 ^ 42 → IfSome o (λ n. n ≤ q * b) → IsNumber (number_after b q o)
+fits b q o l m h w =
+    let p : number_after b q o ≤ (q + 1) * b = in_next_block b q o l w in
+    let k : (q + 1) * b ≤ 4398046511104 * 1000000 = mul-le (q + 1) b 4398046511104 1000000 (omega (arith, h)) m in
+    (at_least_one b q o, omega (arith, p, k))

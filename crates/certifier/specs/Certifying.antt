@@ -8,6 +8,7 @@ use Rattle.key_items.specs.declared.item.KeptItem.{KeptItem}
 use Rattle.key_items.specs.declared.item.Item.{Item}
 use Rattle.key_items.specs.Items.{Ascend}
 use Rattle.gtid_sets.specs.Sets.{Gtids}
+use Rattle.gtid_sets.specs.Canonical.{IsNumber}
 use Rattle.txn_forms.specs.declared.body.Txn.{Txn}
 use Rattle.txn_forms.specs.declared.body.Body.TheVariants.{Txn as Writes}
 use Rattle.group_rules.specs.declared.marks.Effect.{Effect}
@@ -32,6 +33,11 @@ nothing_certified group block = record { group = group; block = block; certified
 abbrev pub effect_of : Verdict → Effect
 effect_of (Positive g) = IsPositive g
 effect_of (Conflict g) = IsConflict g
+
+-- the number of a GTID that is given is one that a GTID may have
+abbrev pub HasNumber : Verdict → Type 0
+HasNumber (Positive g) = IsNumber g.number
+HasNumber (Conflict g) = Unit {0}
 
 -- the verdict on a transaction of this origin that is taken next
 abbrev pub verdict_on : Certifying → Inc → Txn → Effect

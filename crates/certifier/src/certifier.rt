@@ -4,8 +4,9 @@ ghost use Rattle.std.specs.Map.Iter.{ShowsInOrder, deref_pair};
 ghost use Rattle.key_items.specs.declared.item.Item.{Item as AnyItem};
 ghost use Rattle.certifier.specs.declared.writer.Writer.{Writer as AnyWriter};
 ghost use Rattle.gr_ids.specs.declared.memory.Memory.{Memory};
+ghost use Rattle.gtid_sets.specs.Canonical.{IsNumber};
 ghost use Rattle.group_rules.specs.Certifier.{next_gtid, numbers_of};
-ghost use Rattle.certifier.specs.Certifying.{AreOfBlocks, ItemsAscend, effect_of, limits_of, nothing_certified, restored_as, verdict_on, with_txn, without_stable};
+ghost use Rattle.certifier.specs.Certifying.{AreOfBlocks, HasNumber, ItemsAscend, effect_of, limits_of, nothing_certified, restored_as, verdict_on, with_txn, without_stable};
 ghost use Rattle.certifier.specs.Inside.{kept_in};
 
 use crate::copying::{copied_last, last_by_origin};
@@ -96,6 +97,7 @@ impl Certifier {
     ) -> Result<Verdict, Memory>
         requires { self.old.certified.blocks < 2 ^ 42 }
         ensures verdict { IfOk result (λ v. effect_of v ≡ verdict_on self.old origin txn.now) }
+        ensures number { IfOk result HasNumber }
         ensures ok { OnOk result (self.new ≡ with_txn place origin txn.now self.old) }
         ensures err { OnErr result (self.new ≡ self.old) }
     {
@@ -122,7 +124,8 @@ impl Certifier {
     // The GTID of the origin's next positive transaction.
     fn next_gtid(&self, origin: Inc) -> Gtid
         requires { self.now.certified.blocks < 2 ^ 42 }
-        ensures { result ≡ next_gtid (limits_of self.now) self.now.certified origin }
+        ensures gtid { result ≡ next_gtid (limits_of self.now) self.now.certified origin }
+        ensures range { IsNumber result.number }
     {
         let last = self.last.get(&origin).copied();
         Gtid {

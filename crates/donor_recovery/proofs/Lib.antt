@@ -1,2 +1,4 @@
 pub mod Giving
 pub mod Adds
+pub mod Places
+pub mod Donors

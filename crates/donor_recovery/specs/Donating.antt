@@ -1,6 +1,7 @@
 -- What a donor keeps and gives.
 -- (MySQL 8.0 Reference Manual, Group Replication: Distributed Recovery.)
 use Rattle.std.specs.Prelude.{◌≡◌, ℕ, ◌==◌, Bool, true, false, not, nat_le, nat_lt, Option, Some, None, List, [], ◌∷◌, filter}
+use Rattle.std.specs.List.{list_all}
 use Rattle.gtid_sets.specs.Sets.{Gtids, has, with_gtid}
 use Rattle.gtid_sets.specs.Canonical.{IsNumber}
 use Rattle.paxos_forms.specs.declared.recovery.Ask.{Ask}
@@ -21,6 +22,15 @@ no_adds = record { adds = []; certified = [] }
 -- a number that a GTID may have
 abbrev pub HasNumber : Given → Type 0
 HasNumber g = IsNumber g.gtid.number
+
+-- none of them is certified above this place
+abbrev pub IsAtMost : ℕ → List Given → Type 0
+IsAtMost p gs = list_all (λ g. nat_le g.place p) gs ≡ true
+
+-- a certified transaction put among the others, ascending by place
+abbrev pub with_given : List Given → Given → List Given
+with_given [] g = g ∷ []
+with_given (x ∷ xs) g = elim (nat_lt g.place x.place) [ true ↦ g ∷ x ∷ xs | false ↦ x ∷ with_given xs g ]
 
 -- the data of an Add put among the others, ascending by place; at one place the last one stays
 abbrev pub with_add : List AtAdd → AtAdd → List AtAdd

@@ -1,12 +1,12 @@
 // What a donor gives.
-ghost use Rattle.std.specs.Prelude.{◌≡◌, ◌∷◌, [], ◌++◌, filter, IfErr, IfOk, IsSomeAnd, not, OnErr, OnOk, option_copied};
+ghost use Rattle.std.specs.Prelude.{◌≡◌, filter, IfErr, IfOk, IsSomeAnd, nat_lt, not, OnErr, OnOk, option_copied};
 ghost use Rattle.std.specs.BTreeMap.{get};
 ghost use Rattle.std.specs.Ordering.{nat_cmp};
-ghost use Rattle.std.specs.List.{All};
+ghost use Rattle.std.specs.List.{All, prefix_len};
 ghost use Rattle.gr_ids.specs.declared.memory.Memory.{Memory};
 ghost use Rattle.gtid_sets.specs.Sets.{has};
 ghost use Rattle.donor_recovery.specs.declared.donor.GiveFault.TheVariants.{Memory as NoRoom};
-ghost use Rattle.donor_recovery.specs.Donating.{HasNumber, IsGiveFault, at_place, give_from, give_made, gtids_given, is_by as is_by_place, marked, no_adds};
+ghost use Rattle.donor_recovery.specs.Donating.{HasNumber, IsGiveFault, at_place, give_from, give_made, gtids_given, is_by as is_by_place, marked, no_adds, with_given};
 
 use crate::at_add::AtAdd;
 use crate::copying::TryCopy;
@@ -24,19 +24,21 @@ use thiserror::Error;
 pub struct Donor {
     adds: BTreeMap<u64, AtAdd>,
     certified: Vec<Given>,
+    // None of them is certified above this place.
+    greatest: u64,
 }
 
 impl Model for Donor {
     ghost use Rattle.std.specs.Prelude.{map};
     ghost use Rattle.std.specs.List.{All};
-    ghost use Rattle.donor_recovery.specs.Donating.{Donating, HasNumber};
+    ghost use Rattle.donor_recovery.specs.Donating.{Donating, HasNumber, IsAtMost};
     ghost use Rattle.donor_recovery.specs.Inside.{add_in};
 
     ghost Value = { Donating };
 
     ghost view = { λ d. record { adds = map add_in d.adds.entries; certified = d.certified.items } };
 
-    ghost invariant = { λ d. All HasNumber d.certified.items };
+    ghost invariant = { λ d. All HasNumber d.certified.items × IsAtMost d.greatest d.certified.items };
 }
 
 /// Why nothing is given.
@@ -66,6 +68,7 @@ impl Donor {
         Donor {
             adds: BTreeMap::new(alloc),
             certified: Vec::new(alloc),
+            greatest: 0,
         }
     }
 
@@ -78,13 +81,19 @@ impl Donor {
         Ok(())
     }
 
-    /// A transaction is certified. Takes constant time, seen over many.
+    /// A transaction is certified; they stand by ascending place. Where its place is the greatest so far, it takes constant time, seen over
+    /// many, else it is linear in them.
     pub fn certified(&mut self, given: Given) -> Result<(), Memory>
         requires { HasNumber given }
-        ensures ok { OnOk result (self.new ≡ record self.old { certified = self.old.certified ++ given ∷ [] }) }
+        ensures ok { OnOk result (self.new ≡ record self.old { certified = with_given self.old.certified given }) }
         ensures err { OnErr result (self.new ≡ self.old) }
     {
+        let place = key_of(given.place);
+        if place < self.greatest {
+            return insert_given(&mut self.certified, given);
+        }
         self.certified.push(given)?;
+        self.greatest = place;
         Ok(())
     }
 
@@ -102,6 +111,28 @@ impl Donor {
         let txns = lacking(alloc, &self.certified, ask.place, &ask.executed)?;
         Ok(give_with(ask.place, at, certified, txns))
     }
+}
+
+// Puts the transaction behind those that aren't above its place.
+fn insert_given(certified: &mut Vec<Given>, given: Given) -> Result<(), Memory>
+    ensures ok { OnOk result (certified.new.items ≡ with_given certified.old.items given) }
+    ensures err { OnErr result (certified.new.items ≡ certified.old.items) }
+{
+    let at = place_behind(certified, given.place);
+    certified.insert(at, given)?;
+    Ok(())
+}
+
+// How many stand before the first one above the place.
+fn place_behind(certified: &[Given], place: Pos) -> usize
+    ensures { result ≡ prefix_len (λ g. not (nat_lt place g.place)) certified.now }
+{
+    for (k, given) in certified.iter().enumerate() {
+        if place < given.place {
+            return k;
+        }
+    }
+    certified.len()
 }
 
 // What stood at the place, with what is certified and what is lacking.

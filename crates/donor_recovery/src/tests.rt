@@ -194,3 +194,21 @@ fn a_joiner_may_have_no_more_than_the_group(rt: HostRuntime) -> Result<(), Fail>
     assert!(rt; recovery.pending() == Some(first_start(1)));
     Ok(())
 }
+
+// A place below those certified before, as a joiner has it that had some already.
+#[test]
+fn what_is_certified_stands_by_place(rt: HostRuntime) -> Result<(), Fail> {
+    let alloc = rt.alloc();
+    let mut donor = Donor::new(alloc);
+    donor.certified(given(alloc, 5, 3))?;
+    donor.certified(given(alloc, 3, 2))?;
+    donor.mark(at_add(alloc, 6, 3)?)?;
+    let ask = Ask {
+        place: Pos(6),
+        executed: set(alloc, NONE)?,
+    };
+    let give = donor.give(alloc, &ask)?;
+    let first = give.txns.as_slice().first().map(|given| given.place);
+    assert_eq!(rt; first, Some(Pos(3)));
+    Ok(())
+}

@@ -1,3 +1,4 @@
 pub mod EachOne
 pub mod Watched
 pub mod Ticking
+pub mod Histories

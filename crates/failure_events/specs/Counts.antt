@@ -1,9 +1,9 @@
 -- What happens to one silence, and what is read from the silences alone.
-use Rattle.std.specs.Prelude.{ℕ, ◌+◌, Bool, true, false, ◌&&◌, not, List, min, nat_le, if◌then◌else◌}
+use Rattle.std.specs.Prelude.{ℕ, ◌+◌, Bool, true, false, List, min, if◌then◌else◌}
 use Rattle.gr_ids.specs.declared.names.Inc.{Inc}
 use Rattle.gr_ids.specs.Names.{inc_eq}
 use Rattle.group_rules.specs.declared.watch.Silence.{Silence}
-use Rattle.group_rules.specs.Watch.{Watch, silence_in, suspects, leads_by_rank}
+use Rattle.group_rules.specs.Watch.{Watch, suspects, leads_by_rank}
 use Rattle.failure_events.specs.Watching.{last_count}
 
 abbrev pub heard_from : Inc → Silence → Silence

@@ -1,11 +1,12 @@
 -- A member that watches the others: who it is, its limits, and the watch that it keeps.
-use Rattle.std.specs.Prelude.{ℕ, Bool, ◌&&◌, not, List, ◌++◌, filter, map, min}
+use Rattle.std.specs.Prelude.{◌≡◌, ℕ, Bool, true, false, ◌&&◌, not, List, ◌++◌, filter, map, min}
 use Rattle.std.specs.List.{list_any}
 use Rattle.gr_ids.specs.declared.names.Inc.{Inc}
 use Rattle.gr_ids.specs.declared.limits.Limits.{Limits}
 use Rattle.gr_ids.specs.Names.{inc_eq, has_inc}
 use Rattle.group_rules.specs.declared.watch.Silence.{Silence}
-use Rattle.group_rules.specs.Watch.{Watch, no_watch, follow_all, ticked, is_expel_due, leads_by_rank}
+use Rattle.group_rules.specs.Watch.{Watch, no_watch, follow_all, is_expel_due, leads_by_rank, watch}
+use Rattle.group_rules.specs.Events.{Did, Came, Enters, Founds, Hears, Life, Setup, Ticks, Took}
 
 pub record Watching : Type 0 where
   pub me : Inc
@@ -48,3 +49,20 @@ capped w = record { silences = map {A = Silence} (λ x. record x { ticks = min x
 -- this member is to offer a Remove of the other one
 abbrev pub is_due : Watching → Inc → List Inc → Bool
 is_due x i online = not (inc_eq i x.me) && (is_expel_due x.limits.expel x.watch i && leads_by_rank x.me x.watch online)
+
+-- ---- histories
+
+-- the watch of a history, but that its counts stop at their last value
+pub record Watches (s : Setup) (me : Inc) (l : Life) (x : Watching) : Type 0 where
+  pub is_me : x.me ≡ me
+  pub limits : x.limits ≡ s.limits
+  pub watch : x.watch ≡ capped (watch s me l)
+
+-- the founding, a Welcome, a tick, a message and an entry change the watch
+abbrev pub is_of_watch : Did → Bool
+is_of_watch Founds = true
+is_of_watch (Enters w) = true
+is_of_watch (Came Ticks) = true
+is_of_watch (Came (Hears m)) = true
+is_of_watch (Took e) = true
+is_of_watch d = false

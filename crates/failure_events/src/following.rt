@@ -1,6 +1,6 @@
 // Who is watched.
 ghost use Rattle.std.specs.Prelude.{◌≡◌, IfOk, filter, map, not};
-ghost use Rattle.gr_ids.specs.Names.{has_inc};
+ghost use Rattle.gr_ids.specs.Names.{has_inc, inc_eq};
 ghost use Rattle.failure_events.specs.Watching.{is_watched, silences_of, unheard};
 
 use gr_ids::{Inc, Memory};
@@ -33,6 +33,13 @@ pub(crate) fn followed_by(
     let mut next = staying(alloc, silences, members)?;
     next.extend_from_slice(&unheard_of(alloc, &newcomers(alloc, silences, members)?)?)?;
     Ok(next)
+}
+
+/// All silences but that of the incarnation.
+pub(crate) fn drop_member(silences: &mut Vec<Silence>, inc: Inc)
+    ensures { silences.new.items ≡ filter (λ x. not (inc_eq x.inc inc)) silences.old.items }
+{
+    silences.retain(|silence| silence.inc != inc);
 }
 
 fn staying(alloc: Global, silences: &[Silence], members: &[Inc]) -> Result<Vec<Silence>, Memory>

@@ -47,3 +47,18 @@ fn silence_is_counted_in_own_ticks(rt: HostRuntime) -> Result<(), Fail> {
     assert_eq!(rt; watch.lost_for(), 0);
     Ok(())
 }
+
+#[test]
+fn a_new_member_counts(rt: HostRuntime) -> Result<(), Fail> {
+    let alloc = rt.alloc();
+    let me = first_start(1);
+    let mut watch = Watch::new(alloc, me, &[me], LIMITS)?;
+    watch.follow_one(first_start(2))?;
+    for _ in 0..5 {
+        watch.tick();
+    }
+    assert!(rt; watch.majority_lost());
+    watch.unfollow(first_start(2));
+    assert!(rt; !watch.majority_lost());
+    Ok(())
+}

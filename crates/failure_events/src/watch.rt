@@ -1,13 +1,13 @@
 // The watch of a member.
 ghost use Rattle.std.specs.Prelude.{◌≡◌, IfOk, OnErr, OnOk};
 ghost use Rattle.gr_ids.specs.declared.memory.Memory.{Memory};
-ghost use Rattle.group_rules.specs.Watch.{heard, is_lost, suspects, ticked};
+ghost use Rattle.group_rules.specs.Watch.{follow, heard, is_lost, suspects, ticked, unfollow};
 ghost use Rattle.failure_events.specs.Watching.{capped, first_watch, followed, is_due};
 
 use crate::counting::{
     hear, is_majority_lost, is_suspected, leads, next_count, silence_of, tick_all,
 };
-use crate::following::{followed_by, unheard_of};
+use crate::following::{drop_member, followed_by, unheard_of};
 use gr_ids::{Inc, Limits, Memory};
 use group_rules::Silence;
 use std::alloc::Global;
@@ -51,6 +51,22 @@ impl Watch {
     {
         self.silences = followed_by(alloc, &self.silences, members)?;
         Ok(())
+    }
+
+    /// One member more is watched from now on. Takes constant time, seen over many.
+    pub fn follow_one(&mut self, inc: Inc) -> Result<(), Memory>
+        ensures ok { OnOk result (self.new ≡ record self.old { watch = follow self.old.watch inc }) }
+        ensures err { OnErr result (self.new ≡ self.old) }
+    {
+        self.silences.push(Silence { inc, ticks: 0 })?;
+        Ok(())
+    }
+
+    /// The incarnation is a member no more. Linear in the members; takes no memory.
+    pub fn unfollow(&mut self, inc: Inc)
+        ensures { self.new ≡ record self.old { watch = unfollow self.old.watch inc } }
+    {
+        drop_member(&mut self.silences, inc);
     }
 
     /// A message came from the incarnation. Linear in the members; takes no memory.

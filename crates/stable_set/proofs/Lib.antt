@@ -1,1 +1,2 @@
 pub mod ToldMaps
+pub mod ToldLists

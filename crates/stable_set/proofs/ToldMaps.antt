@@ -1,5 +1,7 @@
 -- The told sets in a map by incarnation.
 use Rattle.std.proofs.Common.{◌≡◌, Bool, true, false, Option, Some, None, List, [], ◌∷◌, ◌++◌, map, refl, sym, ap, ◌∙◌}
+use Rattle.std.specs.Prelude.{fold}
+use Rattle.std.proofs.lemmas.List.Sums.{fold-append}
 use Rattle.std.specs.Ordering.{is_eq, is_lt}
 use Rattle.std.specs.declared.cmp.Ordering.{Ordering}
 use Rattle.std.specs.declared.cmp.Ordering.TheVariants.{Less, Equal, Greater}
@@ -58,3 +60,7 @@ one_more ts i is = go (told_of ts i) refl
     go : (o : Option Gtids) → told_of ts i ≡ o → sets_of ts (i ∷ []) ++ sets_of ts is ≡ sets_of ts (i ∷ is)
     go None e = rw (e, sets_of) refl
     go (Some s) e = rw (e, sets_of) refl
+
+-- one set more is put in
+pub told_more : (es new : Entries) (x : ToldSet) (ys : List ToldSet) → new ≡ insert_entry inc_cmp es x.inc x.set → map told_in es ≡ fold with_told [] ys → map told_in new ≡ fold with_told [] (ys ++ x ∷ [])
+told_more es new x ys e h = ap (map told_in) e ∙ (inserted es x.inc x.set ∙ (ap (λ (ts : List ToldSet). with_told ts x) h ∙ sym (fold-append with_told [] ys (x ∷ []))))

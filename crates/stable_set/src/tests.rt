@@ -1,6 +1,6 @@
 use crate::Told;
-use gr_ids::Inc;
-use gtid_sets::GtidSet;
+use gr_ids::{Inc, Sequence};
+use gtid_sets::{GtidSet, ToldSet};
 use std::alloc::Global;
 use std::test::Fail;
 
@@ -75,5 +75,28 @@ fn what_all_have_told_is_stable(rt: HostRuntime) -> Result<(), Fail> {
         told.stable(alloc, &[first_start(2), first_start(5)])?
             .is_empty()
     );
+    Ok(())
+}
+
+#[test]
+fn sets_given_are_taken_up(rt: HostRuntime) -> Result<(), Fail> {
+    let alloc = rt.alloc();
+    let one = ToldSet {
+        inc: Inc {
+            server: 1,
+            start: 1,
+        },
+        set: GtidSet::parse(alloc, TO_THREE)?,
+    };
+    let two = ToldSet {
+        inc: Inc {
+            server: 2,
+            start: 1,
+        },
+        set: GtidSet::parse(alloc, TWO_TO_FIVE)?,
+    };
+    let told = Told::restore(alloc, Sequence::from_vec(vec![in alloc; one, two]?))?;
+    let stable = told.stable(alloc, &[first_start(1), first_start(2)])?;
+    assert_eq!(rt; stable.write_text(alloc)?.as_slice(), TWO_AND_THREE);
     Ok(())
 }

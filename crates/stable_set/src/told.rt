@@ -1,8 +1,8 @@
 // The last set that each incarnation told.
-ghost use Rattle.std.specs.Prelude.{◌≡◌, [], ◌∷◌, ◌++◌, IfOk, map, OnErr, OnOk};
+ghost use Rattle.std.specs.Prelude.{◌≡◌, [], ◌∷◌, ◌++◌, fold, IfOk, map, OnErr, OnOk};
 ghost use Rattle.gr_ids.specs.declared.memory.Memory.{Memory};
 ghost use Rattle.group_rules.specs.Told.{set_or_empty, sets_of, stable_of, told_of, with_told};
-ghost use Rattle.stable_set.specs.Entries.{told_in};
+ghost use Rattle.stable_set.specs.Entries.{ToldAscend, told_in};
 
 use gr_ids::{Inc, Memory, Sequence};
 use gtid_sets::{GtidSet, ToldSet};
@@ -36,6 +36,16 @@ impl Told {
         }
     }
 
+    /// The sets as a donor told of them, ascending by incarnation. Logarithmic in them, for each.
+    pub fn restore(alloc: Global, sets: Sequence<ToldSet>) -> Result<Told, Memory>
+        requires { ToldAscend sets }
+        ensures { IfOk result (λ told. told ≡ sets) }
+    {
+        Ok(Told {
+            sets: by_incarnation(alloc, sets.into_vec())?,
+        })
+    }
+
     /// The incarnation has told this set, which takes the place of the one that it told before. Logarithmic in the incarnations.
     pub fn told(&mut self, inc: Inc, set: GtidSet) -> Result<(), Memory>
         ensures ok { OnOk result (self.new ≡ with_told self.old (told_in (inc, set))) }
@@ -64,6 +74,17 @@ impl Told {
         }
         Ok(Sequence::from_vec(sets))
     }
+}
+
+// The sets in a map; where an incarnation comes twice, the later set.
+fn by_incarnation(alloc: Global, sets: Vec<ToldSet>) -> Result<BTreeMap<Inc, GtidSet>, Memory>
+    ensures { IfOk result (λ told. map told_in told.entries ≡ fold with_told [] sets.items) }
+{
+    let mut told = BTreeMap::new(alloc);
+    for set in sets {
+        told.insert(set.inc, set.set)?;
+    }
+    Ok(told)
 }
 
 // What all of these have told.

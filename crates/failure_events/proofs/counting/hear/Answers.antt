@@ -1,5 +1,5 @@
 -- One more is changed, and at the end all are.
-use Rattle.std.proofs.Common.{◌≡◌, refl, ◌∙◌}
+use Rattle.std.proofs.Common.{refl, ◌∙◌}
 use Rattle.failure_events.specs.Counts.{heard_from}
 use Rattle.failure_events.proofs.EachOne.{next_one, all_changed}
 use Rattle.failure_events.proofs.counting.hear.Goals as goal

@@ -1,5 +1,5 @@
 -- One more is changed, and at the end all are.
-use Rattle.std.proofs.Common.{◌≡◌, refl, ◌∙◌}
+use Rattle.std.proofs.Common.{refl, ◌∙◌}
 use Rattle.failure_events.specs.Counts.{one_more}
 use Rattle.failure_events.proofs.EachOne.{next_one, all_changed}
 use Rattle.failure_events.proofs.counting.tick_each.Goals as goal

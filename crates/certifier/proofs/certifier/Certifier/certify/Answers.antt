@@ -28,7 +28,7 @@ pub invariant_of-self-then-opens_block : goal.invariant_of-self-then-opens_block
 invariant_of-self-then-opens_block c =
     let i = c.self.inside in
     let was : IfSome (last_of (map last_in i.last.entries) c.args.origin) (λ n. n ≤ i.blocks * i.block) = subst (λ (o : Option ℕ). IfSome o (λ n. n ≤ i.blocks * i.block)) (sym (reads i.last.entries c.args.origin)) (c.self.invariant.numbers c.args.origin) in
-    let number : c.next_gtid-gtid.result.number ≡ number_after i.block i.blocks (last_of (map last_in i.last.entries) c.args.origin) = ap (λ g. g.number) (c.next_gtid-gtid.ensures ∙ ap (λ (v : Certifying). next_gtid (limits_of v) v.certified c.args.origin) (sym c.self.view_is)) in
+    let number : c.next_gtid-gtid.result.number ≡ number_after i.block i.blocks (last_of (map last_in i.last.entries) c.args.origin) = ap (λ g. g.number) (c.next_gtid-gtid.ensures.gtid ∙ ap (λ (v : Certifying). next_gtid (limits_of v) v.certified c.args.origin) (sym c.self.view_is)) in
     sound_with i.block i.blocks (i.blocks + 1) i.last.entries c.insert.new.self.entries c.args.origin c.next_gtid-gtid.result.number c.self.invariant c.in_ok-before.ensures.updates.0
     (rw number (in_next_block i.block i.blocks (last_of (map last_in i.last.entries) c.args.origin) c.self.invariant.least was)) (wider i.block i.blocks)
 
@@ -36,7 +36,7 @@ pub invariant_of-self-else-opens_block : goal.invariant_of-self-else-opens_block
 invariant_of-self-else-opens_block c =
     let i = c.self.inside in
     let was : IfSome (last_of (map last_in i.last.entries) c.args.origin) (λ n. n ≤ i.blocks * i.block) = subst (λ (o : Option ℕ). IfSome o (λ n. n ≤ i.blocks * i.block)) (sym (reads i.last.entries c.args.origin)) (c.self.invariant.numbers c.args.origin) in
-    let number : c.next_gtid-gtid.result.number ≡ number_after i.block i.blocks (last_of (map last_in i.last.entries) c.args.origin) = ap (λ g. g.number) (c.next_gtid-gtid.ensures ∙ ap (λ (v : Certifying). next_gtid (limits_of v) v.certified c.args.origin) (sym c.self.view_is)) in
+    let number : c.next_gtid-gtid.result.number ≡ number_after i.block i.blocks (last_of (map last_in i.last.entries) c.args.origin) = ap (λ g. g.number) (c.next_gtid-gtid.ensures.gtid ∙ ap (λ (v : Certifying). next_gtid (limits_of v) v.certified c.args.origin) (sym c.self.view_is)) in
     let shut : opens_block i.block (number_after i.block i.blocks (last_of (map last_in i.last.entries) c.args.origin)) ≡ false = ap (opens_block i.block) (sym number) ∙ (sym c.opens_block.ensures ∙ c.if-opens_block.false) in
     sound_with i.block i.blocks i.blocks i.last.entries c.insert.new.self.entries c.args.origin c.next_gtid-gtid.result.number c.self.invariant c.in_ok-before.ensures.updates.0
     (rw number (in_blocks i.block i.blocks (last_of (map last_in i.last.entries) c.args.origin) was shut)) (omega arith)
@@ -49,7 +49,7 @@ returns-then-opens_block-clause-ok c =
     rw (← c.self.view_is) (made_positive (certifying_in i.group i.block i.blocks i.last.entries i.kept) c.args.place c.args.origin c.args.txn.now c.next_gtid-gtid.result
     (i.blocks + 1) (map last_in c.insert.new.self.entries) (map kept_in c.write.new.self)
     (no_blocker (blocker (map kept_in i.kept) c.args.txn.now) (sym c.in_default.ensures))
-    (c.next_gtid-gtid.ensures ∙ ap (λ (v : Certifying). next_gtid (limits_of v) v.certified c.args.origin) (sym c.self.view_is))
+    (c.next_gtid-gtid.ensures.gtid ∙ ap (λ (v : Certifying). next_gtid (limits_of v) v.certified c.args.origin) (sym c.self.view_is))
     (rw opens (omega arith))
     (ap (map last_in) c.in_ok-before.ensures.entries ∙ inserted i.last.entries c.args.origin c.next_gtid-gtid.result.number)
     (on_ok c.write.result no c.write.ensures.ok ∙ ap (λ is. written_by c.args.place c.next_gtid-gtid.result is (map kept_in i.kept)) c.as_slice.ensures.items))
@@ -62,7 +62,7 @@ returns-else-opens_block-clause-ok c =
     rw (← c.self.view_is) (made_positive (certifying_in i.group i.block i.blocks i.last.entries i.kept) c.args.place c.args.origin c.args.txn.now c.next_gtid-gtid.result
     i.blocks (map last_in c.insert.new.self.entries) (map kept_in c.write.new.self)
     (no_blocker (blocker (map kept_in i.kept) c.args.txn.now) (sym c.in_default.ensures))
-    (c.next_gtid-gtid.ensures ∙ ap (λ (v : Certifying). next_gtid (limits_of v) v.certified c.args.origin) (sym c.self.view_is))
+    (c.next_gtid-gtid.ensures.gtid ∙ ap (λ (v : Certifying). next_gtid (limits_of v) v.certified c.args.origin) (sym c.self.view_is))
     (rw shut refl)
     (ap (map last_in) c.in_ok-before.ensures.entries ∙ inserted i.last.entries c.args.origin c.next_gtid-gtid.result.number)
     (on_ok c.write.result no c.write.ensures.ok ∙ ap (λ is. written_by c.args.place c.next_gtid-gtid.result is (map kept_in i.kept)) c.as_slice.ensures.items))

@@ -1,5 +1,5 @@
 -- All members are watched from now on.
-use Rattle.std.proofs.Common.{◌≡◌, refl}
+use Rattle.std.proofs.Common.{refl}
 use Rattle.group_rules.specs.Watch.{no_watch}
 use Rattle.failure_events.proofs.Watched.{follow_all_is}
 use Rattle.failure_events.proofs.watch.Watch.new.Goals as goal

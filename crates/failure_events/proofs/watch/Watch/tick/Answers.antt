@@ -1,5 +1,5 @@
 -- Each count is one more.
-use Rattle.std.proofs.Common.{◌≡◌, ap, ◌∙◌}
+use Rattle.std.proofs.Common.{ap, ◌∙◌}
 use Rattle.gr_ids.specs.declared.names.Inc.{Inc}
 use Rattle.gr_ids.specs.declared.limits.Limits.{Limits}
 use Rattle.group_rules.specs.Watch.{Watch, is_lost, ticked}

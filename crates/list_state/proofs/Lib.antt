@@ -1,0 +1,5 @@
+pub mod Entries
+pub mod Bodies
+pub mod Bounds
+pub mod Followed
+pub mod Joined

@@ -1,0 +1,71 @@
+use crate::MemberParts;
+use gr_ids::{Blob, Inc, Limits, Mode, Pos, ValueId};
+use gtid_sets::GtidSet;
+use paxos_forms::Ask;
+use slot_values::{Joiner, Value, What};
+use std::alloc::Global;
+use std::process::Abort;
+use std::test::Fail;
+
+const LIMITS: Limits = Limits {
+    group: *b"ABCDEFGHIJKLMNOP",
+    horizon: 10,
+    expel: 2,
+    majority: 3,
+    block: 1,
+};
+
+// A transaction that has seen nothing and inserts the row a of the table t.
+const INSERT: &[u8] = b"\x01\0\0\0\0\0\0\0\0\x01\x01t\x01a\0\0\0\x01\0\0\0\0\x01\0\0\0\x011";
+
+/// The first incarnation of a server.
+fn joiner(server: u8) -> Joiner {
+    Joiner {
+        inc: Inc { server, start: 1 },
+        uuid: [server; 16],
+        version: [8, 0, 36],
+        weight: 50,
+    }
+}
+
+// The next entry is one of server 1.
+fn take(rt: &impl Abort, alloc: Global, parts: &mut MemberParts, what: What) -> Result<(), Fail> {
+    assert!(rt; parts.list().taken().0 < 100);
+    let value = Value {
+        id: ValueId {
+            origin: Inc {
+                server: 1,
+                start: 1,
+            },
+            number: 1,
+        },
+        what,
+    };
+    let _ = parts.take(alloc, &GtidSet::new(alloc), &value, true)?;
+    Ok(())
+}
+
+#[test]
+fn an_add_is_watched_and_served(rt: HostRuntime) -> Result<(), Fail> {
+    let alloc = rt.alloc();
+    let me = joiner(1).inc;
+    let mut parts = MemberParts::founded(alloc, me, &[joiner(1), joiner(2)], Mode::Multi, LIMITS)?;
+    take(&rt, alloc, &mut parts, What::Body(Blob::of(alloc, INSERT)?))?;
+    take(&rt, alloc, &mut parts, What::Add(joiner(3)))?;
+    for _ in 0..5 {
+        parts.tick();
+    }
+    assert!(rt; parts.watch().suspects(joiner(3).inc));
+    parts.heard(joiner(3).inc);
+    assert!(rt; !parts.watch().suspects(joiner(3).inc));
+    let ask = Ask {
+        place: Pos(2),
+        executed: GtidSet::new(alloc),
+    };
+    let give = parts.give(alloc, &ask)?;
+    assert_eq!(rt; give.txns.as_slice().len(), 1);
+    assert_eq!(rt; give.blocks, 1);
+    take(&rt, alloc, &mut parts, What::Remove(joiner(2).inc))?;
+    assert!(rt; !parts.watch().suspects(joiner(2).inc));
+    Ok(())
+}
