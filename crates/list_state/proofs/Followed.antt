@@ -29,7 +29,7 @@ use Rattle.certifier.specs.Certifying.{Certifying, limits_of}
 use Rattle.certifier.specs.Laws.{certifying}
 use Rattle.list_state.specs.Listing.{Listed, certifier_after, effect_by, entry_by, entry_next, open_of, parts_after, told_with, with_entry}
 use Rattle.list_state.specs.Following.{Follows, is_of_list}
-use Rattle.stable_set.proofs.IncOrder.{same_inc}
+use Rattle.node_rules.proofs.Incs.{inc_is}
 use Rattle.list_state.proofs.Bodies.{held_ascends}
 
 -- ---- the entry
@@ -103,7 +103,7 @@ parts_agree l ps e q h f = go (inc_eq i q) refl
 
     go : (t : Bool) → inc_eq e.value.id.origin q ≡ t → parts_of (parts_after e ps) q ≡ open_parts (Took e ∷ l) q
     go true d =
-        let same : e.value.id.origin ≡ q = same_inc e.value.id.origin q d in
+        let same : e.value.id.origin ≡ q = inc_is e.value.id.origin q d in
         let here : open_after e.value.id.origin e.holds (parts_of ps e.value.id.origin) ≡ open_after q e.holds (open_parts l q) = ap (λ (o : Inc). open_after o e.holds (parts_of ps o)) same ∙ ap (open_after q e.holds) (f q) in
         put ∙ rw (d, open_parts) here
     go false d = put ∙ rw (d, open_parts) (f q)

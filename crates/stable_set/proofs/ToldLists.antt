@@ -9,7 +9,8 @@ use Rattle.gtid_sets.specs.declared.told.ToldSet.{ToldSet}
 use Rattle.gr_ids.specs.Names.{inc_eq, inc_lt}
 use Rattle.group_rules.specs.Told.{with_told}
 use Rattle.stable_set.specs.Entries.{ToldAscend}
-use Rattle.stable_set.proofs.IncOrder.{inc_cmp, inc_cmp_total, inc_eq_cmp, inc_lt_cmp}
+use Rattle.node_rules.specs.Order.{inc_cmp}
+use Rattle.node_rules.proofs.IncOrder.{inc_cmp_total, inc_eq_cmp, inc_lt_cmp}
 
 is_less : (o : Ordering) → is_lt o ≡ true → o ≡ Less
 is_less Less e = refl
