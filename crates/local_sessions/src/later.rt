@@ -4,6 +4,7 @@ ghost use Rattle.std.specs.Option.{option_map};
 ghost use Rattle.gr_ids.specs.declared.memory.Memory.{Memory};
 ghost use Rattle.key_items.specs.declared.item.Item.{Item as AnyItem};
 ghost use Rattle.row_locks.specs.Locking.{holders_of, session_at, taken_over, with_place};
+ghost use Rattle.local_sessions.specs.Standing.{ascend as is_ascending};
 ghost use Rattle.local_sessions.specs.Replies.{Does, Ends};
 ghost use Rattle.local_sessions.specs.Others.{answer_of, answered, answers_ascend, answers_left, asking, killed_by, sessions_left, unless_killed};
 
@@ -25,6 +26,7 @@ impl Sessions {
         ensures answer { result ≡ option_map (answered (answer_of outcome)) (asking self.old id) }
         ensures none { IfNone result ((self.new ≡ self.old) × (at.new ≡ at.old)) }
         ensures some { IfSome result (λ a. Does Ends a.session self.old self.new at.old at.new) }
+        ensures order { is_ascending self.old ≡ true }
     {
         let session = session_asking(&self.list, id)?;
         self.end(at, session);
@@ -59,6 +61,7 @@ impl Sessions {
         ensures answers { IfOk result (λ out. out ≡ answers_left taken.now self.old) }
         ensures ascend { IfOk result (λ out. answers_ascend out ≡ true) }
         ensures sessions { OnOk result (self.new ≡ sessions_left self.old) }
+        ensures order { is_ascending self.old ≡ true }
         ensures err { OnErr result (self.new ≡ self.old) }
     {
         let answers = answers_of(*self.list.allocator(), &self.list, taken)?;
