@@ -27,9 +27,9 @@ use Rattle.group_lives.specs.Lives.{life_of}
 use Rattle.group_lives.specs.Sound.{HasSets}
 use Rattle.group_lives.proofs.Sets.{canonical}
 use Rattle.group_lawful.specs.Lived.{Lived}
-use Rattle.group_lawful.specs.Knows.{Alike, certified_of, Descends, Sound, AlwaysSound}
+use Rattle.group_lawful.specs.Knows.{Alike, certified_of, Descends, Sound, AlwaysSound, Distinct}
 use Rattle.group_lawful.proofs.Opens.{in_filter, in_reverse, in_end, in_pending, sound_where, ready_or, unready}
-use Rattle.group_lawful.proofs.Marks.{Distinct, done_as}
+use Rattle.group_lawful.proofs.Marks.{done_as}
 use Rattle.group_runs.specs.Runs.{is_founder}
 use Rattle.group_order.proofs.Shapes.{Shape}
 use Rattle.group_lawful.proofs.Given.{cert_place, given_before}

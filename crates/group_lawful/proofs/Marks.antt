@@ -28,12 +28,8 @@ use Rattle.group_laws.specs.Lawful.{LawfulFinish, LawfulAck}
 use Rattle.group_laws.proofs.Lists.{IsPast-self}
 use Rattle.group_lives.specs.Lives.{did_of, life_of}
 use Rattle.group_lawful.specs.Lived.{LivedDid, Lived}
-use Rattle.group_lawful.specs.Knows.{Alike, certified_of, AlwaysSound}
+use Rattle.group_lawful.specs.Knows.{Alike, certified_of, AlwaysSound, Distinct}
 use Rattle.group_lawful.proofs.Opens.{find_is, in_pending, in_queue, sound_where}
-
--- no two certified transactions have one GTID
-abbrev pub Distinct : Setup → List law.Placed → Life → Type 0
-Distinct t base l = (c d : law.Cert) → Mem c (certified_of t base l) → Mem d (certified_of t base l) → c.gtid ≡ d.gtid → c ≡ d
 
 -- ---- pasts
 

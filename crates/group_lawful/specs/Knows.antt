@@ -29,6 +29,10 @@ pub record Alike (c : Cert) (d : law.Cert) : Type 0 where
 abbrev pub certified_of : Setup → List law.Placed → Life → List law.Cert
 certified_of t base l = law.certified t (lives.marked (life_of base l))
 
+-- no two of them have one GTID
+abbrev pub Distinct : Setup → List law.Placed → Life → Type 0
+Distinct t base l = (c d : law.Cert) → Mem c (certified_of t base l) → Mem d (certified_of t base l) → c.gtid ≡ d.gtid → c ≡ d
+
 -- newest first, each at a place of its own
 abbrev pub Descends : List Cert → Type 0
 Descends [] = Unit {0}

@@ -62,9 +62,9 @@ use Rattle.group_lives.proofs.Runs.{lives_agree}
 use Rattle.group_lives.proofs.Sets.{executed_agrees}
 use Rattle.group_lives.proofs.Taking.{places_agree}
 use Rattle.group_lawful.specs.Lived.{LivedDid, Lived}
-use Rattle.group_lawful.specs.Knows.{certified_of, EndsWithAdd, Sound, GivenOnce, AlwaysSound}
+use Rattle.group_lawful.specs.Knows.{certified_of, EndsWithAdd, Sound, GivenOnce, AlwaysSound, Distinct}
 use Rattle.group_lawful.proofs.Lives.{lived}
-use Rattle.group_lawful.proofs.Marks.{Distinct, ready_as, ready_back, made_as_many, lawful_finish, lawful_ack}
+use Rattle.group_lawful.proofs.Marks.{ready_as, ready_back, made_as_many, lawful_finish, lawful_ack}
 use Rattle.group_lawful.proofs.Lawfuls.{lawful_commit}
 use Rattle.group_lawful.proofs.Begins.{lawful_begun}
 use Rattle.group_lawful.proofs.Opens.{unready, ready_or}
