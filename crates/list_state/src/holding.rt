@@ -17,7 +17,8 @@ use txn_forms::{Body, BodyFault, Joined, Part, Parts, decode};
 pub(crate) fn hold(alloc: Global, parts: &mut Parts, value: &Value) -> Result<Held, Memory>
     requires { IsInc value.now.id.origin }
     ensures held { IfOk result (λ h. Shows (parts_of parts.old value.now.id.origin) (held (parts_of parts.old value.now.id.origin) value.now.what) h) }
-    ensures parts { OnOk result (parts.new ≡ with_parts parts.old value.now.id.origin (open_after value.now.id.origin (held (parts_of parts.old value.now.id.origin) value.now.what) (parts_of parts.old value.now.id.origin))) }
+    ensures parts { OnOk result (parts.new ≡ with_parts parts.old value.now.id.origin
+        (open_after value.now.id.origin (held (parts_of parts.old value.now.id.origin) value.now.what) (parts_of parts.old value.now.id.origin))) }
 {
     match &value.what {
         What::Body(bytes) => hold_body(alloc, parts, value.id.origin, bytes),
@@ -31,7 +32,8 @@ pub(crate) fn hold(alloc: Global, parts: &mut Parts, value: &Value) -> Result<He
 fn hold_body(alloc: Global, parts: &mut Parts, origin: Inc, bytes: &Blob) -> Result<Held, Memory>
     requires { IsInc origin }
     ensures held { IfOk result (λ h. Shows (parts_of parts.old origin) (held_body (parts_of parts.old origin) (read_body bytes.now)) h) }
-    ensures parts { OnOk result (parts.new ≡ with_parts parts.old origin (open_after origin (held_body (parts_of parts.old origin) (read_body bytes.now)) (parts_of parts.old origin))) }
+    ensures parts { OnOk result (parts.new ≡ with_parts parts.old origin
+        (open_after origin (held_body (parts_of parts.old origin) (read_body bytes.now)) (parts_of parts.old origin))) }
 {
     match decode(alloc, bytes.as_slice()) {
         Ok(Body::Part(part)) => hold_part(alloc, parts, origin, part),

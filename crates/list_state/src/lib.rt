@@ -37,7 +37,8 @@ pub fn lists_are_those_of_the_rules()
     ensures taken { (s : Setup) (l : Life) (x : Listed) (t : ℕ) (b : Bool) (v : AnyValue) → Follows s l x
         → IsInc v.id.origin → Follows s (Took (entry_of s l t (suc x.taken) b v) ∷ l) (with_entry (entry_next x t b v) x) }
     ensures welcomed { (s : Setup) (l : Life) (x : Listed) (w : AnyWelcome) → Follows s l x → Follows s (Enters w ∷ l) (welcomed w x) }
-    ensures given { (s : Setup) (l : Life) (x : Listed) (g : AnyGive) (cs : List Cert) → Follows s l x → IsGive g → Follows s (Restores g cs ∷ l) (restored (at_add g) x) }
+    ensures given { (s : Setup) (l : Life) (x : Listed) (g : AnyGive) (cs : List Cert) → Follows s l x → IsGive g
+        → Follows s (Restores g cs ∷ l) (restored (at_add g) x) }
     ensures kept { (s : Setup) (l : Life) (x : Listed) → Follows s l x → add_here x ≡ add_of s l x.taken }
     ensures passed { (s : Setup) (l : Life) (x : Listed) (d : Did) → is_of_list d ≡ false → Follows s l x → Follows s (d ∷ l) x }
 {}

@@ -1,4 +1,4 @@
--- What an entry does to the donor of a member, by what is answered of it.
+-- What an entry does to the donor and the backlog of a member, by what is answered of it.
 use Rattle.std.specs.Prelude.{ℕ, List, [], ◌∷◌, fold}
 use Rattle.gr_ids.specs.declared.names.Inc.{Inc}
 use Rattle.paxos_forms.specs.declared.recovery.Given.{Given}

@@ -62,7 +62,8 @@ impl MemberParts {
     ) -> Result<(), Memory>
         requires number { welcome.now.number ≤ welcome.now.place + 1 }
         requires above { self.old.list.taken ≤ welcome.now.place }
-        ensures { OnOk result ((s : Setup) (l : Life) → s.limits ≡ limits → StandsFor s me l self.old → StandsFor s me (Enters welcome.now ∷ l) self.new) }
+        ensures { OnOk result ((s : Setup) (l : Life) → s.limits ≡ limits → StandsFor s me l self.old
+            → StandsFor s me (Enters welcome.now ∷ l) self.new) }
     {
         let members = incs_told(alloc, welcome.members.as_slice())?;
         self.watch = Watch::new(alloc, me, &members, limits)?;
@@ -82,8 +83,10 @@ impl MemberParts {
     ) -> Result<(), Memory>
         requires fits { FitsPlace self.old.list.taken self.old.list.limits.block at }
         requires numbers { All HasNumber txns.now }
-        ensures { OnOk result ((s : Setup) (me : Member) (l : Life) (g : AnyGive) (cs : List Cert) → IsGive g → at ≡ at_add g → txns.now ≡ map given_of cs
-            → certified.now ≡ map uncommitted_of cs → executed.now ≡ executed_by l → certs l ≡ [] → StandsFor s me l self.old → StandsFor s me (Restores g cs ∷ l) self.new) }
+        ensures { OnOk result ((s : Setup) (me : Member) (l : Life) (g : AnyGive) (cs : List Cert) → IsGive g → at ≡ at_add g
+            → txns.now ≡ map given_of cs
+            → certified.now ≡ map uncommitted_of cs → executed.now ≡ executed_by l → certs l ≡ [] → StandsFor s me l self.old
+            → StandsFor s me (Restores g cs ∷ l) self.new) }
     {
         keep_all(&mut self.donor, alloc, txns)?;
         self.backlog = Backlog::restore(alloc, executed, certified)?;

@@ -1,4 +1,5 @@
-//! The parts of a member that each entry of the ordered list changes, together: what the list has made, the watch, and the donor.
+//! The parts of a member that each entry of the ordered list changes, together: what the list has made, the watch, the donor and
+//! the backlog.
 #![tactic(auto)]
 
 mod entering;

@@ -72,7 +72,8 @@ impl MemberParts {
 
     /// A transaction is committed, which the executed set has now. Linear in those that wait; takes no memory.
     pub fn settle(&mut self, executed: &GtidSet)
-        ensures { (s : Setup) (me : Member) (l : Life) (g : AnyGtid) → executed.now ≡ with_gtid (executed_by l) g → IsUuid g.source → IsNumber g.number
+        ensures { (s : Setup) (me : Member) (l : Life) (g : AnyGtid) → executed.now ≡ with_gtid (executed_by l) g → IsUuid g.source
+            → IsNumber g.number
             → StandsFor s me l self.old → StandsFor s me (Committed g ∷ l) self.new }
     {
         self.backlog.settle(executed);
