@@ -4,7 +4,7 @@ use Rattle.gr_ids.specs.declared.names.Inc.{Inc}
 use Rattle.gr_ids.specs.declared.names.OpenParts.{OpenParts}
 use Rattle.gtid_sets.specs.Canonical.{IsNumber}
 use Rattle.gtid_sets.specs.declared.told.ToldSet.{ToldSet}
-use Rattle.txn_forms.specs.Bodies.{body_bytes}
+use Rattle.txn_forms.specs.Bodies.{body_bytes, read_body}
 use Rattle.txn_forms.specs.Parts.{is_open}
 use Rattle.txn_forms.specs.declared.body.Body.{Body}
 use Rattle.txn_forms.specs.declared.body.Part.{Part}
@@ -25,9 +25,9 @@ IsNews (body.Txn t) = ⊥
 IsNews (body.Part p) = ⊥
 IsNews b = Unit {0}
 
--- A transaction is held with its bytes; of a part it is known whether it is void, by the parts that were open before it.
+-- A transaction is held with its bytes, which are read as it; of a part it is known whether it is void, by the parts that were open before it.
 abbrev pub Shows : Option OpenParts → Option Body → Held → Type 0
-Shows o x (Txn t b) = (x ≡ Some (body.Txn t)) × (b ≡ body_bytes (body.Txn t))
+Shows o x (Txn t b) = (x ≡ Some (body.Txn t)) × (b ≡ body_bytes (body.Txn t)) × (read_body b ≡ Some (body.Txn t))
 Shows o x (PartHeld void) = (p : Part) × (x ≡ Some (body.Part p)) × (void ≡ not (is_open o p))
 Shows o x (Other b) = (x ≡ Some b) × IsNews b
 Shows o x Nothing = x ≡ None
