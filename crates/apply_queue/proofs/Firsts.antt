@@ -109,7 +109,7 @@ passes p (x ∷ xs) q e = go (p x) refl (passes p xs q)
 pub fields_of : (q : Queued) (p : ℕ) (g : Gtid) (b : List ℕ) (m : Mark) → p ≡ q.place → g ≡ q.gtid → b ≡ q.body → q.mark ≡ m → q ≡ record { place = p; gtid = g; body = b; mark = m }
 fields_of q p g b m hp hg hb hm = rw (hp, hg, hb) (ap (λ (n : Mark). record { place = q.place; gtid = q.gtid; body = q.body; mark = n }) hm)
 
-mark_waits : (q : Queued) → is_waiting q ≡ true → q.mark ≡ Waiting
+pub mark_waits : (q : Queued) → is_waiting q ≡ true → q.mark ≡ Waiting
 mark_waits q h = go q.mark refl
   where
     go : (m : Mark) → q.mark ≡ m → q.mark ≡ Waiting

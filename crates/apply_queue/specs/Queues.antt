@@ -73,5 +73,10 @@ abbrev pub next_commit : List Queued → Option ℕ → Option Queued
 next_commit [] b = None
 next_commit (q ∷ qs) b = if is_done q && is_below b q.place then Some q else None
 
+-- the least place is this one, and done
+abbrev pub front_is_done : List Queued → ℕ → Bool
+front_is_done [] p = false
+front_is_done (q ∷ qs) p = is_done q && (q.place == p)
+
 abbrev pub shown : Queued → QueuedPlace
 shown q = record { place = q.place; done = is_done q }
