@@ -1,9 +1,8 @@
 -- A place that is done.
-use Rattle.std.proofs.Common.{◌≡◌, ◌<◌, ℕ, Bool, true, false, List, [], ◌∷◌, refl, sym, ap, ◌∙◌, arith, eqb, eqb-true, eq-eqb, ne_eqb}
+use Rattle.std.proofs.Common.{◌≡◌, ℕ, Bool, true, false, List, [], ◌∷◌, refl, sym, ap, ◌∙◌, arith, eqb, eqb-true, eq-eqb, ne_eqb}
 use Rattle.std.proofs.lemmas.Bool.{eqb-false}
 use Rattle.gr_ids.specs.declared.names.Inc.{Inc}
 use Rattle.key_items.specs.declared.change.Change.{Change}
-use Rattle.node_rules.specs.Lists.{In}
 use Rattle.group_rules.specs.Events.{Cert, Done as IsDone, Life}
 use Rattle.group_rules.specs.Queue.{is_done as was_done, queue}
 use Rattle.apply_queue.specs.Following.{IsRising, QueuedOf}
@@ -26,6 +25,7 @@ done_stand_at l p ds (c ∷ cs) (q ∷ qs) k s = go (is_at p q) refl (done_stand
   where
     place : q.place ≡ c.place
     place = ap (λ (x : Queued). x.place) s.0
+
     go : (b : Bool) → is_at p q ≡ b → Stand (was_done (IsDone p ∷ l)) cs (with_done qs p ds) → Stand (was_done (IsDone p ∷ l)) (c ∷ cs) (with_done (q ∷ qs) p ds)
     go true e t =
         let here : p ≡ c.place = sym (eqb-true q.place p e) ∙ place in

@@ -1,11 +1,9 @@
 -- The first of the queue, and what is shown.
-use Rattle.std.proofs.Common.{◌≡◌, ◌⊎◌, ◌<◌, inl, inr, ℕ, Bool, true, false, ◌&&◌, ◌||◌, not, List, [], ◌∷◌, ◌++◌, map, refl, sym, ap, subst, ◌∙◌, true≢false, eq-eqb}
+use Rattle.std.proofs.Common.{◌≡◌, ◌<◌, inl, inr, ℕ, Bool, true, false, ◌&&◌, ◌||◌, not, List, [], ◌∷◌, map, refl, sym, ap, subst, ◌∙◌, true≢false, eq-eqb}
 use Rattle.std.specs.Prelude.{filter, reverse, nat_lt, if◌then◌else◌}
-use Rattle.std.specs.List.{list_all}
 use Rattle.std.proofs.lemmas.Bool.{lt-ltb}
-use Rattle.std.proofs.lemmas.List.{reverse-append}
 use Rattle.gr_ids.specs.declared.names.Inc.{Inc}
-use Rattle.gtid_sets.specs.Sets.{Gtids, has}
+use Rattle.gtid_sets.specs.Sets.{has}
 use Rattle.node_rules.specs.Lists.{In}
 use Rattle.group_rules.specs.declared.said.Look.TheVariants.{Queue as ShowsQueue}
 use Rattle.group_rules.specs.declared.said.QueuedPlace.{QueuedPlace}
@@ -16,37 +14,9 @@ use Rattle.group_rules.specs.Member.{Member}
 use Rattle.group_rules.specs.Queue.{all_below, is_done as was_done, is_own, pending, queue}
 use Rattle.apply_queue.specs.Following.{IsRising, QueuedOf, as_queued, work_of}
 use Rattle.apply_queue.specs.Queues.{Queued, front_is_done, is_done, shown}
+use Rattle.apply_queue.proofs.Lists.{all_in, in_filter, in_reverse}
 use Rattle.apply_queue.proofs.Standing.{Stand}
 use Rattle.apply_queue.proofs.Lives.{is_others, lacks, queue_is, stands}
-
--- ---- what a list has
-
-in_filter : (p : Cert → Bool) (x : Cert) (xs : List Cert) → In x (filter p xs) → In x xs × (p x ≡ true)
-in_filter p x [] m = absurd m
-in_filter p x (y ∷ ys) m = go (p y) refl m (in_filter p x ys)
-  where
-    go : (b : Bool) → p y ≡ b → In x (if b then y ∷ filter p ys else filter p ys) → (In x (filter p ys) → In x ys × (p x ≡ true)) → In x (y ∷ ys) × (p x ≡ true)
-    go true e (inl same) k = (inl same, ap p (sym same) ∙ e)
-    go true e (inr n) k = let r = k n in (inr r.0, r.1)
-    go false e n k = let r = k n in (inr r.0, r.1)
-
-in_end : (x y : Cert) (xs : List Cert) → In x (xs ++ y ∷ []) → (y ≡ x) ⊎ In x xs
-in_end x y [] m = elim m [ inl same ↦ inl same | inr n ↦ absurd n ]
-in_end x y (z ∷ zs) (inl same) = inr (inl same)
-in_end x y (z ∷ zs) (inr n) = elim (in_end x y zs n) [ inl same ↦ inl same | inr k ↦ inr (inr k) ]
-
-in_reverse : (x : Cert) (xs : List Cert) → In x (reverse xs) → In x xs
-in_reverse x [] m = m
-in_reverse x (y ∷ ys) m = elim (in_end x y (reverse ys) (subst (In x) (reverse-append (y ∷ []) ys) m)) [ inl same ↦ inl same | inr n ↦ inr (in_reverse x ys n) ]
-
-parts : (s t : Bool) → (s && t) ≡ true → (s ≡ true) × (t ≡ true)
-parts true t e = (refl, e)
-parts false t e = absurd (true≢false (sym e))
-
-all_in : (p : Cert → Bool) (x : Cert) (xs : List Cert) → list_all p xs ≡ true → In x xs → p x ≡ true
-all_in p x [] a m = absurd m
-all_in p x (y ∷ ys) a (inl same) = ap p (sym same) ∙ (parts (p y) (list_all p ys) a).0
-all_in p x (y ∷ ys) a (inr m) = all_in p x ys (parts (p y) (list_all p ys) a).1 m
 
 rising_left : (p : Cert → Bool) (cs : List Cert) → IsRising cs → IsRising (filter p cs)
 rising_left p [] k = tt
@@ -104,7 +74,7 @@ begins me l qs c w h k m o a =
     begins_with l c others qs (subst (λ (cs : List Cert). Stand (was_done l) cs qs) front (stands me l qs w))
 
 pub first_is : (me : Inc) (l : Life) (qs : List Queued) (c : Cert) → QueuedOf me l qs → is_error (state l) ≡ false → IsRising (pending l) → In c (pending l) → is_own me c ≡ false → all_below (executed l) (certs l) c.place ≡ true
-  → (q : Queued) × (rest : List Queued) × (qs ≡ q ∷ rest) × (as_queued q ≡ work_of c) × (is_done q ≡ was_done l c.place)
+    → (q : Queued) × (rest : List Queued) × (qs ≡ q ∷ rest) × (as_queued q ≡ work_of c) × (is_done q ≡ was_done l c.place)
 first_is me l qs c w h k m o a = let b = begins me l qs c w h k m o a in (b.front, b.rest, b.is, b.work, b.done)
 
 pub front_is : (me : Inc) (l : Life) (qs : List Queued) (c : Cert) → QueuedOf me l qs → is_error (state l) ≡ false → IsRising (pending l) → In c (pending l) → is_own me c ≡ false → all_below (executed l) (certs l) c.place ≡ true → front_is_done qs c.place ≡ was_done l c.place

@@ -1,5 +1,5 @@
 -- The queue, thing by thing.
-use Rattle.std.proofs.Common.{◌≡◌, ℕ, Bool, true, false, ◌&&◌, ◌||◌, not, List, [], ◌∷◌, ◌++◌, map, refl, sym, ap, ◌∙◌}
+use Rattle.std.proofs.Common.{◌≡◌, ℕ, Bool, true, false, ◌||◌, not, List, [], ◌∷◌, ◌++◌, map, refl, sym, ap, ◌∙◌}
 use Rattle.std.specs.Prelude.{filter, reverse, if◌then◌else◌}
 use Rattle.std.proofs.lemmas.List.{reverse-append, reverse-reverse}
 use Rattle.std.proofs.lemmas.List.Elements.{filter-append}
@@ -16,8 +16,8 @@ use Rattle.group_rules.specs.declared.marks.Cause.{Cause}
 use Rattle.group_rules.specs.Events.{AskFails, AsksCommit, Answered, Begun, Called, Came, Cert, Changed, Committed, Did, Done, Ends, Enters, Entry, Founds, Gave, Is, Life, Made, Replied, Restores, Skips, Starts, Stored, Took}
 use Rattle.group_rules.specs.Life.{cert_of, certs, executed, is_error, state}
 use Rattle.group_rules.specs.Queue.{is_done as was_done, is_own, pending, queue}
-use Rattle.apply_queue.specs.Following.{QueuedOf, as_queued, is_for_workers, is_of_queue, is_other, with_certified, without, work_of, works_of}
-use Rattle.apply_queue.specs.Queues.{Queued, handed_out, is_done}
+use Rattle.apply_queue.specs.Following.{QueuedOf, is_for_workers, is_of_queue, is_other, with_certified, without, work_of, works_of}
+use Rattle.apply_queue.specs.Queues.{Queued, handed_out}
 use Rattle.apply_queue.proofs.Standing.{Stand, done_stand, stand, stand_append, stand_filter, stand_handed, works_stand}
 
 abbrev pub lacks : Gtids → Cert → Bool
@@ -90,8 +90,8 @@ left me s t g h [] = refl
 left me s t g h (c ∷ cs) = go (gtid_eq g c.gtid) refl (has s c.gtid) refl (is_own me c) refl (left me s t g h cs)
   where
     go : (a : Bool) → gtid_eq g c.gtid ≡ a → (b : Bool) → has s c.gtid ≡ b → (o : Bool) → is_own me c ≡ o
-      → filter (is_others me) (filter (lacks t) cs) ≡ filter (is_not g) (filter (is_others me) (filter (lacks s) cs))
-      → filter (is_others me) (filter (lacks t) (c ∷ cs)) ≡ filter (is_not g) (filter (is_others me) (filter (lacks s) (c ∷ cs)))
+        → filter (is_others me) (filter (lacks t) cs) ≡ filter (is_not g) (filter (is_others me) (filter (lacks s) cs))
+        → filter (is_others me) (filter (lacks t) (c ∷ cs)) ≡ filter (is_not g) (filter (is_others me) (filter (lacks s) (c ∷ cs)))
     go true ea true eb o eo r = let k : has t c.gtid ≡ true = h c.gtid ∙ rw ea refl in rw (k, eb) r
     go true ea false eb true eo r = let k : has t c.gtid ≡ true = h c.gtid ∙ rw ea refl in rw (k, eb, eo) r
     go true ea false eb false eo r = let k : has t c.gtid ≡ true = h c.gtid ∙ rw ea refl in rw (k, eb, eo, ea) r

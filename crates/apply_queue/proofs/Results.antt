@@ -1,12 +1,9 @@
--- What a worker's result leaves, and what a commit takes out.
-use Rattle.std.proofs.Common.{◌≡◌, ℕ, Bool, true, false, ◌&&◌, not, Option, Some, None, List, [], ◌∷◌, refl, sym, ap, ◌∙◌, true≢false, eqb, eqb-true, eq-eqb}
+-- What a worker's result leaves.
+use Rattle.std.proofs.Common.{◌≡◌, ℕ, Bool, true, false, Some, None, List, [], ◌∷◌, refl, sym, ap, ◌∙◌, eqb, eqb-true, eq-eqb}
 use Rattle.apply_queue.specs.declared.fault.QueueFault.TheVariants.{AlreadyDone, NotQueued}
-use Rattle.std.specs.Prelude.{filter, if◌then◌else◌}
-use Rattle.std.specs.List.{list_all}
 use Rattle.std.proofs.lemmas.Slice.Eq.{bytes_eq-Decides}
-use Rattle.gr_ids.specs.declared.names.Gtid.{Gtid}
 use Rattle.gr_ids.specs.declared.names.Inc.{Inc}
-use Rattle.gr_ids.specs.Names.{bytes_eq, gtid_eq}
+use Rattle.gr_ids.specs.Names.{bytes_eq}
 use Rattle.txn_forms.specs.Bodies.{body_bytes}
 use Rattle.txn_forms.specs.declared.body.Body.TheVariants.{Txn as Writes}
 use Rattle.group_rules.specs.declared.marks.Reply.TheVariants.{NotQueued as SaysNotQueued}
@@ -14,15 +11,13 @@ use Rattle.group_rules.specs.Events.{Cert, Life, Replied}
 use Rattle.group_rules.specs.Member.{Member, push}
 use Rattle.group_rules.specs.Queue.{at_place, is_done as was_done, queue}
 use Rattle.group_rules.specs.Steps.{done_of, work}
-use Rattle.apply_queue.specs.Following.{QueuedOf, as_queued, is_other, with_result, without, work_of}
+use Rattle.apply_queue.specs.Following.{QueuedOf, as_queued, with_result, work_of}
 use Rattle.apply_queue.specs.Queues.{Queued, is_at, is_done, at_place as queued_at, refusal, refused_at}
 use Rattle.apply_queue.proofs.Standing.{Stand}
 use Rattle.apply_queue.proofs.Lives.{stands}
 
--- ---- a result
-
 by_tests : (p : ℕ) (b : List ℕ) (a : Member) (c : Cert) (q : Queued) (x y : Bool) → bytes_eq (body_bytes (Writes c.txn)) b ≡ x → bytes_eq q.body b ≡ x → was_done a.life p ≡ y → is_done q ≡ y
-  → done_of p (Some b) (Some c) a ≡ with_result p (refused_at p b (Some q)) a
+    → done_of p (Some b) (Some c) a ≡ with_result p (refused_at p b (Some q)) a
 by_tests p b a c q false y e f g h = rw (done_of, e, f) refl
 by_tests p b a c q true true e f g h = rw (done_of, e, f, g, h) refl
 by_tests p b a c q true false e f g h = rw (done_of, e, f, g, h) refl
@@ -41,6 +36,7 @@ leaves p b a (c ∷ cs) (q ∷ qs) s = go (is_at p q) refl (leaves p b a cs qs s
   where
     there : (t : Bool) → is_at p q ≡ t → eqb c.place p ≡ t
     there t e = ap (λ n. eqb n p) (sym (place_is c q s.0)) ∙ e
+
     go : (t : Bool) → is_at p q ≡ t → done_of p (Some b) (at_place cs p) a ≡ with_result p (refused_at p b (queued_at qs p)) a → done_of p (Some b) (at_place (c ∷ cs) p) a ≡ with_result p (refused_at p b (queued_at (q ∷ qs) p)) a
     go true e r =
         let here : c.place ≡ p = sym (place_is c q s.0) ∙ eqb-true q.place p e in
@@ -80,16 +76,3 @@ found_in f p b (c ∷ cs) (q ∷ qs) s n = go (is_at p q) refl (found_in f p b c
 
 pub found : (me : Inc) (l : Life) (qs : List Queued) (p : ℕ) (b : List ℕ) → QueuedOf me l qs → refusal qs p b ≡ None → (c : Cert) × (at_place (queue l me) p ≡ Some c) × (body_bytes (Writes c.txn) ≡ b) × (was_done l p ≡ false)
 found me l qs p b w n = found_in (was_done l) p b (queue l me) qs (stands me l qs w) n
-
--- ---- a commit
-
-parts : (s t : Bool) → (s && t) ≡ true → (s ≡ true) × (t ≡ true)
-parts true t e = (refl, e)
-parts false t e = absurd (true≢false (sym e))
-
-pub absent : (g : Gtid) (qs : List Queued) → list_all (is_other g) qs ≡ true → without g qs ≡ qs
-absent g [] a = refl
-absent g (q ∷ qs) a = let k = parts (is_other g q) (list_all (is_other g) qs) a in rw k.0 (ap (λ (rs : List Queued). q ∷ rs) (absent g qs k.1))
-
-pub first_out : (g : Gtid) (q : Queued) (qs : List Queued) → gtid_eq g q.gtid ≡ true → list_all (is_other g) qs ≡ true → without g (q ∷ qs) ≡ qs
-first_out g q qs e a = rw e (absent g qs a)

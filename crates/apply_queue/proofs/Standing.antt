@@ -1,10 +1,10 @@
 -- Queued places stand for certified transactions, one by one.
 use Rattle.std.proofs.Common.{◌≡◌, ℕ, Bool, true, false, List, [], ◌∷◌, ◌++◌, map, inl, inr, refl, sym, ap, ◌∙◌}
-use Rattle.std.specs.Prelude.{filter, if◌then◌else◌}
+use Rattle.std.specs.Prelude.{filter}
 use Rattle.node_rules.specs.Lists.{In}
 use Rattle.group_rules.specs.Events.{Cert}
 use Rattle.apply_queue.specs.Following.{as_queued, work_of}
-use Rattle.apply_queue.specs.Queues.{Mark, Out, Queued, Waiting, handed_out, is_done, is_waiting, with_first}
+use Rattle.apply_queue.specs.Queues.{Mark, Queued, handed_out, is_done, is_waiting}
 use Rattle.apply_queue.proofs.Firsts.{mark_waits}
 
 -- each is the work of its transaction, and done where this says so of its place

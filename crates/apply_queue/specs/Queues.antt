@@ -1,6 +1,6 @@
 -- The queue of a member: certified transactions of other origins, by ascending place. Each waits, is handed out to a worker, or is done.
 -- (MySQL 8.0 Reference Manual, replica_parallel_workers and replica_preserve_commit_order: workers apply in parallel, and commit in order.)
-use Rattle.std.specs.Prelude.{ℕ, Bool, true, false, ◌&&◌, not, Option, Some, None, List, [], ◌∷◌, nat_lt, ◌==◌, if◌then◌else◌}
+use Rattle.std.specs.Prelude.{ℕ, Bool, true, false, ◌&&◌, Option, Some, None, List, [], ◌∷◌, nat_lt, ◌==◌, if◌then◌else◌}
 use Rattle.std.specs.List.{find, list_all}
 use Rattle.gr_ids.specs.declared.names.Gtid.{Gtid}
 use Rattle.gr_ids.specs.Names.{bytes_eq}

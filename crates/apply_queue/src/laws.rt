@@ -1,5 +1,5 @@
 // What a queue stands for.
-ghost use Rattle.std.specs.Prelude.{◌≡◌, ◌∷◌, ℕ, [], List, None, Some, false, map, true};
+ghost use Rattle.std.specs.Prelude.{◌≡◌, ◌<◌, ◌∷◌, ◌++◌, ℕ, [], List, None, Some, false, map, true};
 ghost use Rattle.std.specs.List.{list_all};
 ghost use Rattle.gr_ids.specs.Names.{gtid_eq};
 ghost use Rattle.gr_ids.specs.declared.levels.MemberState.{MemberState};
@@ -7,6 +7,7 @@ ghost use Rattle.gr_ids.specs.declared.levels.MemberState.TheVariants.{Error};
 ghost use Rattle.gr_ids.specs.declared.names.Gtid.{Gtid};
 ghost use Rattle.gr_ids.specs.declared.names.Inc.{Inc};
 ghost use Rattle.gtid_sets.specs.Canonical.{IsCanonical, IsNumber, IsUuid};
+ghost use Rattle.gtid_sets.specs.Sets.{Gtids};
 ghost use Rattle.key_items.specs.declared.change.Change.{Change};
 ghost use Rattle.node_rules.specs.Lists.{In};
 ghost use Rattle.paxos_forms.specs.declared.recovery.Give.{Give};
@@ -22,7 +23,7 @@ ghost use Rattle.group_rules.specs.Member.{Member, push};
 ghost use Rattle.group_rules.specs.Queue.{all_below, at_place, is_done as was_done, is_own, pending, queue};
 ghost use Rattle.group_rules.specs.Steps.{work};
 ghost use Rattle.apply_queue.specs.Following.{IsRising, QueuedOf, as_queued, is_of_queue, is_other, with_certified, with_result, without, work_of, works_of};
-ghost use Rattle.apply_queue.specs.Queues.{Queued, front_is_done, handed_out, is_done, refusal, shown, with_done};
+ghost use Rattle.apply_queue.specs.Queues.{Queued, front_is_done, handed_out, is_above, is_done, refusal, shown, with_done};
 
 /// A queue stands for a history: with an entry that is certified, and one that isn't; with a place that is handed out, and one that is
 /// done; with a commit, a Give, a state; in ERROR it is empty; and what else happens changes nothing.
@@ -45,10 +46,23 @@ pub fn queues_are_those_of_the_rules()
     ensures passed { (me : Inc) (l : Life) (d : Did) (qs : List Queued) → is_of_queue d ≡ false → QueuedOf me l qs → QueuedOf me (d ∷ l) qs }
 {}
 
-/// A commit takes out its own transaction alone: nothing where none has its GTID, and the first where only that one has it.
+/// A commit takes out its own transaction alone: nothing where none has its GTID, and the first where only that one has it; so it is
+/// where no other place of the history's queue has its GTID.
 pub fn commits_take_the_first()
     ensures absent { (g : Gtid) (qs : List Queued) → list_all (is_other g) qs ≡ true → without g qs ≡ qs }
     ensures first { (g : Gtid) (q : Queued) (qs : List Queued) → gtid_eq g q.gtid ≡ true → list_all (is_other g) qs ≡ true → without g (q ∷ qs) ≡ qs }
+    ensures apart { (me : Inc) (l : Life) (qs : List Queued) (g : Gtid) → QueuedOf me l qs
+        → ((c : Cert) → In c (queue l me) → gtid_eq g c.gtid ≡ false) → list_all (is_other g) qs ≡ true }
+    ensures behind { (me : Inc) (l : Life) (q : Queued) (qs : List Queued) → QueuedOf me l (q ∷ qs) → IsRising (queue l me)
+        → ((d : Cert) → In d (queue l me) → gtid_eq q.gtid d.gtid ≡ true → d.place ≡ q.place) → list_all (is_other q.gtid) qs ≡ true }
+{}
+
+/// A transaction at a place above all that are certified may be pushed; and so may those of a Give, one by one.
+pub fn pushes_are_those_of_the_rules()
+    ensures above { (me : Inc) (l : Life) (qs : List Queued) (p : ℕ) → QueuedOf me l qs → ((d : Cert) → In d (certs l) → d.place < p)
+        → is_above qs p ≡ true }
+    ensures given { (me : Inc) (e : Gtids) (cs : List Cert) (p : ℕ) → ((d : Cert) → In d cs → d.place < p) → is_above (works_of me e cs) p ≡ true }
+    ensures one_more { (me : Inc) (e : Gtids) (cs : List Cert) (c : Cert) → works_of me e (cs ++ c ∷ []) ≡ with_certified me e (works_of me e cs) c }
 {}
 
 /// A worker's result is taken and refused as the rules of the group have it; where it is taken, a transaction with its bytes is queued

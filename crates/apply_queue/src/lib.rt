@@ -13,8 +13,8 @@ mod work;
 
 pub use fault::QueueFault;
 pub use laws::{
-    commits_take_the_first, fronts_are_those_of_the_rules, queues_are_those_of_the_rules,
-    results_are_those_of_the_rules,
+    commits_take_the_first, fronts_are_those_of_the_rules, pushes_are_those_of_the_rules,
+    queues_are_those_of_the_rules, results_are_those_of_the_rules,
 };
 pub use queue::Queue;
 pub use work::{Work, WorkDone};
