@@ -1,10 +1,10 @@
 -- The first that passes a test: where it stands, and what a change of it leaves.
-use Rattle.std.proofs.Common.{◌≡◌, ℕ, zero, suc, ◌+◌, ◌<◌, ◌≤◌, Bool, true, false, not, ◌&&◌, Option, Some, None, List, [], ◌∷◌, take, length, get_or, slice_get, refl, sym, ap, ◌∙◌, arith}
-use Rattle.std.specs.Prelude.{if◌then◌else◌, slice_set}
+use Rattle.std.proofs.Common.{◌≡◌, ℕ, zero, suc, ◌+◌, ◌<◌, ◌≤◌, Bool, true, false, not, Some, None, List, [], ◌∷◌, take, length, get_or, slice_get, refl, sym, ap, ◌∙◌, arith}
+use Rattle.std.specs.Prelude.{slice_set}
 use Rattle.std.specs.List.{find, prefix_len, list_all}
 use Rattle.std.proofs.lemmas.Bool.{true≢false, cases_lt}
 use Rattle.std.proofs.lemmas.Option.{slice_get-get_or}
-use Rattle.std.proofs.Common.{◌⊎◌, inl, inr}
+use Rattle.std.proofs.Common.{inl, inr}
 use Rattle.gr_ids.specs.declared.names.Gtid.{Gtid}
 use Rattle.apply_queue.specs.Queues.{Mark, Waiting, Out, Done, is_waiting}
 use Rattle.apply_queue.specs.Queues.{Queued, with_first}
@@ -109,7 +109,7 @@ passes p (x ∷ xs) q e = go (p x) refl (passes p xs q)
 pub fields_of : (q : Queued) (p : ℕ) (g : Gtid) (b : List ℕ) (m : Mark) → p ≡ q.place → g ≡ q.gtid → b ≡ q.body → q.mark ≡ m → q ≡ record { place = p; gtid = g; body = b; mark = m }
 fields_of q p g b m hp hg hb hm = rw (hp, hg, hb) (ap (λ (n : Mark). record { place = q.place; gtid = q.gtid; body = q.body; mark = n }) hm)
 
-mark_waits : (q : Queued) → is_waiting q ≡ true → q.mark ≡ Waiting
+pub mark_waits : (q : Queued) → is_waiting q ≡ true → q.mark ≡ Waiting
 mark_waits q h = go q.mark refl
   where
     go : (m : Mark) → q.mark ≡ m → q.mark ≡ Waiting

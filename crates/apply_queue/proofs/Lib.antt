@@ -1,2 +1,10 @@
 pub mod Firsts
 pub mod Cursor
+pub mod Lists
+pub mod Standing
+pub mod Lives
+pub mod Dones
+pub mod Commits
+pub mod Pushes
+pub mod Results
+pub mod Fronts

@@ -3,6 +3,7 @@
 
 mod entry;
 mod fault;
+mod laws;
 mod mark;
 mod queue;
 mod scan;
@@ -11,5 +12,9 @@ mod tests;
 mod work;
 
 pub use fault::QueueFault;
+pub use laws::{
+    commits_take_the_first, fronts_are_those_of_the_rules, pushes_are_those_of_the_rules,
+    queues_are_those_of_the_rules, results_are_those_of_the_rules,
+};
 pub use queue::Queue;
 pub use work::{Work, WorkDone};

@@ -2,7 +2,7 @@
 ghost use Rattle.std.specs.Prelude.{◌≡◌, ◌++◌, ◌∷◌, [], None, Some, true, map, IfErr, IfNone, IfOk, IfSome, MatchOption, OnErr, OnOk};
 ghost use Rattle.gr_ids.specs.declared.names.Gtid.{Gtid as AnyGtid};
 ghost use Rattle.gr_ids.specs.declared.memory.Memory.{Memory};
-ghost use Rattle.apply_queue.specs.Queues.{Done as IsDone, Mark, Waiting as IsWaiting, at_place, first_waiting, handed_out, is_above, is_below, next_commit, refusal, shown, with_done};
+ghost use Rattle.apply_queue.specs.Queues.{Done as IsDone, Mark, Waiting as IsWaiting, at_place, first_waiting, front_is_done, handed_out, is_above, is_below, next_commit, refusal, shown, with_done};
 
 use crate::entry::Entry;
 use crate::fault::QueueFault;
@@ -116,6 +116,16 @@ impl Queue {
         let entry = self.entries.pop_front()?;
         self.next = self.next.saturating_sub(1);
         Some(entry.into_done())
+    }
+
+    /// Whether the least queued place is this one, and done. Takes constant time.
+    pub fn front_is_done(&self, place: Pos) -> bool
+        ensures { result ≡ front_is_done self.now place }
+    {
+        match self.entries.front() {
+            Some(front) => front.is_done() && front.place() == place,
+            None => false,
+        }
     }
 
     /// The queued places, ascending, each with whether it is done. Linear in them.

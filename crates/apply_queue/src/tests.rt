@@ -62,10 +62,12 @@ fn places_are_committed_in_order(rt: HostRuntime) -> Result<(), Fail> {
     assert_eq!(rt; place_of(queue.next_work()?), 3);
     assert_eq!(rt; queue.done(done(&rt, alloc, 5, b'c')?), Ok(()));
     assert_eq!(rt; place_of(queue.next_work()?), 0);
+    assert!(rt; !queue.front_is_done(Pos(2)) && !queue.front_is_done(Pos(5)));
     assert_eq!(rt; place_of_done(queue.commits(None)), 0);
     assert_eq!(rt; queue.done(done(&rt, alloc, 3, b'b')?), Ok(()));
     assert_eq!(rt; place_of_done(queue.commits(None)), 0);
     assert_eq!(rt; queue.done(done(&rt, alloc, 2, b'a')?), Ok(()));
+    assert!(rt; queue.front_is_done(Pos(2)) && !queue.front_is_done(Pos(3)));
     assert_eq!(rt; place_of_done(queue.commits(Some(Pos(2)))), 0);
     assert_eq!(rt; place_of_done(queue.commits(Some(Pos(3)))), 2);
     assert_eq!(rt; place_of_done(queue.commits(Some(Pos(3)))), 0);

@@ -1,7 +1,6 @@
 -- The first one that waits, or none does.
-use Rattle.std.proofs.Common.{◌≡◌, ◌<◌, ◌≤◌, true, not, length, ap, sym, ◌∙◌, arith}
-use Rattle.std.specs.Prelude.{◌==◌}
-use Rattle.apply_queue.specs.Queues.{Queued, is_waiting, is_at}
+use Rattle.std.proofs.Common.{◌≡◌, ◌<◌, ◌≤◌, not, length, ap, sym, ◌∙◌, arith}
+use Rattle.apply_queue.specs.Queues.{Queued, is_waiting}
 use Rattle.apply_queue.proofs.Firsts.{prefix_is, prefix_all}
 use Rattle.apply_queue.proofs.scan.first_waiting_from.Goals as goal
 

@@ -1,7 +1,7 @@
 -- The place stands there, or nowhere.
 use Rattle.std.proofs.Common.{◌≡◌, ◌<◌, ◌≤◌, true, not, length, ap, sym, ◌∙◌, arith}
 use Rattle.std.specs.Prelude.{◌==◌}
-use Rattle.apply_queue.specs.Queues.{Queued, is_waiting, is_at}
+use Rattle.apply_queue.specs.Queues.{Queued, is_at}
 use Rattle.apply_queue.proofs.Firsts.{prefix_is, prefix_all}
 use Rattle.apply_queue.proofs.scan.index_of.Goals as goal
 

@@ -1,9 +1,8 @@
 -- The first one that waits is handed out.
-use Rattle.std.proofs.Common.{◌≡◌, ◌<◌, ◌≤◌, List, Some, None, true, false, not, length, ap, sym, refl, ◌∙◌, arith}
+use Rattle.std.proofs.Common.{◌<◌, Some, not, length, ap, sym, refl, ◌∙◌, arith}
 use Rattle.std.proofs.lemmas.Bool.{true≢false}
-use Rattle.gr_ids.specs.Names.{bytes_eq}
-use Rattle.apply_queue.specs.Queues.{Queued, Mark, Waiting, Out, Done, is_waiting, is_done, is_at, at_place, refused_at, first_waiting}
-use Rattle.apply_queue.proofs.Firsts.{nobody, somebody, changed_there, set_length, fields_of, waits_at, prefix_passes, prefix_within}
+use Rattle.apply_queue.specs.Queues.{Queued, Waiting, Out, is_waiting, first_waiting}
+use Rattle.apply_queue.proofs.Firsts.{nobody, somebody, changed_there, set_length, fields_of, waits_at, prefix_passes}
 use Rattle.apply_queue.proofs.Cursor.{after_change}
 use Rattle.apply_queue.proofs.queue.Queue.next_work.Goals as goal
 

@@ -1,10 +1,8 @@
 -- The work of the first one that is the place.
-use Rattle.std.proofs.Common.{◌≡◌, ◌<◌, ◌≤◌, List, Some, None, true, false, not, length, ap, sym, refl, ◌∙◌, arith}
+use Rattle.std.proofs.Common.{◌<◌, Some, length, ap, sym, refl, ◌∙◌, arith}
 use Rattle.std.proofs.lemmas.Bool.{true≢false}
-use Rattle.gr_ids.specs.Names.{bytes_eq}
-use Rattle.apply_queue.specs.Queues.{Queued, Mark, Waiting, Out, Done, is_waiting, is_done, is_at, at_place, refused_at, first_waiting}
-use Rattle.apply_queue.proofs.Firsts.{nobody, somebody, changed_there, set_length, fields_of, waits_at, prefix_passes, prefix_within}
-use Rattle.apply_queue.proofs.Cursor.{after_change}
+use Rattle.apply_queue.specs.Queues.{Queued, is_at, at_place}
+use Rattle.apply_queue.proofs.Firsts.{nobody, somebody, fields_of}
 use Rattle.apply_queue.proofs.queue.Queue.work.Goals as goal
 
 pub returns-in_err-entry : goal.returns-in_err-entry
