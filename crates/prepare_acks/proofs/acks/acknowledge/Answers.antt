@@ -1,5 +1,5 @@
 -- The list at the GTID loses the member, and goes where nobody is left.
-use Rattle.std.proofs.Common.{◌≡◌, Some, None, ap, sym, refl, ◌∙◌}
+use Rattle.std.proofs.Common.{Some, None, ap, sym, refl, ◌∙◌}
 use Rattle.prepare_acks.specs.Awaited.{without, is_none}
 use Rattle.prepare_acks.specs.Inside.{members_in}
 use Rattle.prepare_acks.proofs.MapReads.{acknowledged, absent, taken_out, nobody_is}

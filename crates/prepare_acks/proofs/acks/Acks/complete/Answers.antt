@@ -1,5 +1,5 @@
 -- What the map has at the GTID.
-use Rattle.std.proofs.Common.{◌≡◌, ap, sym, ◌∙◌}
+use Rattle.std.proofs.Common.{ap, sym, ◌∙◌}
 use Rattle.prepare_acks.specs.Awaited.{is_none}
 use Rattle.prepare_acks.specs.Inside.{members_in}
 use Rattle.prepare_acks.proofs.MapReads.{reads}

@@ -1,5 +1,5 @@
 -- Each list loses the member.
-use Rattle.std.proofs.Common.{◌≡◌, rules}
+use Rattle.std.proofs.Common.{rules}
 use Rattle.prepare_acks.proofs.MapReads.{retained}
 use Rattle.prepare_acks.proofs.acks.Acks.left.Goals as goal
 

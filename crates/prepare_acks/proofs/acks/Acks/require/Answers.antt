@@ -1,5 +1,5 @@
 -- The map has the new list at the GTID, and at each other one what it had.
-use Rattle.std.proofs.Common.{◌≡◌, Some, ap, ◌∙◌}
+use Rattle.std.proofs.Common.{Some}
 use Rattle.prepare_acks.proofs.MapReads.{changed}
 use Rattle.prepare_acks.proofs.acks.Acks.require.Goals as goal
 
