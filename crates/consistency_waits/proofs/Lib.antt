@@ -1,2 +1,11 @@
 pub mod EachOne
 pub mod HoldPlaces
+pub mod Ascending
+pub mod Finding
+pub mod Known
+pub mod Chosen
+pub mod Histories
+pub mod Acts
+pub mod Begins
+pub mod Timeouts
+pub mod Falls

@@ -1,7 +1,7 @@
 -- Held begins, ascending by session: what becomes of them. (MySQL 8.0 Reference Manual, Group Replication: Transaction Consistency Guarantees; the wait
 -- limit, and that a begin is what waits, are this project's own.)
-use Rattle.std.specs.Prelude.{ℕ, ◌+◌, Bool, not, Some, None, List, [], ◌∷◌, filter, map, min, nat_lt, nat_le, if◌then◌else◌, ◌==◌}
-use Rattle.std.specs.List.{list_any}
+use Rattle.std.specs.Prelude.{ℕ, ◌+◌, Bool, true, ◌&&◌, not, Option, Some, None, List, [], ◌∷◌, filter, min, nat_lt, nat_le, if◌then◌else◌, ◌==◌}
+use Rattle.std.specs.List.{find, list_all, list_any}
 use Rattle.gr_ids.specs.declared.names.ValueId.{ValueId}
 use Rattle.gr_ids.specs.Names.{is_id}
 use Rattle.group_rules.specs.Holds.{is_met}
@@ -22,6 +22,15 @@ new_hold s x limit = record { session = s; conditions = x; sync_place = None; ti
 abbrev pub with_hold : List Held → Held → List Held
 with_hold [] h = h ∷ []
 with_hold (x ∷ xs) h = if nat_lt h.session x.session then h ∷ x ∷ xs else x ∷ with_hold xs h
+
+-- each session is below all those behind it
+abbrev pub ascend : List Held → Bool
+ascend [] = true
+ascend (h ∷ hs) = list_all (λ x. nat_lt h.session x.session) hs && ascend hs
+
+-- the session's hold
+abbrev pub held_in : List Held → ℕ → Option Held
+held_in hs s = find (λ h. h.session == s) hs
 
 abbrev pub is_held : List Held → ℕ → Bool
 is_held hs s = list_any (λ h. h.session == s) hs

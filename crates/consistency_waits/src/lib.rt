@@ -3,10 +3,15 @@
 
 mod conditions;
 mod held;
+mod laws;
 mod placing;
 #[cfg(test)]
 mod tests;
 mod waits;
 
 pub use held::{Released, Standing};
+pub use laws::{
+    a_fall_ends_all_holds, begins_are_those_of_the_rules, holds_follow_their_history,
+    timeouts_are_those_of_the_rules,
+};
 pub use waits::Waits;

@@ -1,8 +1,8 @@
 // The holds of a member.
-ghost use Rattle.std.specs.Prelude.{◌≡◌, ◌≤◌, [], IfOk, MatchOption, OnErr, OnOk, false, filter, find, map, not};
+ghost use Rattle.std.specs.Prelude.{◌≡◌, ◌≤◌, [], IfOk, MatchOption, OnErr, OnOk, false, filter, find, map, not, true};
 ghost use Rattle.std.specs.Option.{option_map};
 ghost use Rattle.gr_ids.specs.declared.memory.Memory.{Memory};
-ghost use Rattle.consistency_waits.specs.Holding.{is_due, is_held, is_over, new_hold, placed, released_as, ticked, with_hold, without};
+ghost use Rattle.consistency_waits.specs.Holding.{ascend as is_ascending, is_due, is_held, is_over, new_hold, placed, released_as, ticked, with_hold, without};
 
 use crate::conditions::holds_now;
 use crate::held::{Held, Released, Standing};
@@ -20,12 +20,14 @@ pub struct Waits {
 }
 
 impl Model for Waits {
-    ghost use Rattle.std.specs.Prelude.{List};
-    ghost use Rattle.consistency_waits.specs.Holding.{Held};
+    ghost use Rattle.std.specs.Prelude.{◌≡◌, List, true};
+    ghost use Rattle.consistency_waits.specs.Holding.{Held, ascend};
 
     ghost Value = { List Held };
 
     ghost view = { λ w. w.holds.items };
+
+    ghost invariant = { λ w. ascend w.holds.items ≡ true };
 }
 
 impl Waits {
@@ -74,6 +76,7 @@ impl Waits {
     pub fn release(&mut self, alloc: Global, now: &Standing) -> Result<Sequence<Released>, Memory>
         ensures ok { OnOk result (self.new ≡ filter (λ h. not (is_due now.now.pending h)) self.old) }
         ensures released { IfOk result (λ out. out ≡ map released_as (filter (is_due now.now.pending) self.old)) }
+        ensures order { is_ascending self.old ≡ true }
         ensures err { OnErr result (self.new ≡ self.old) }
     {
         let out = due(alloc, &self.holds, now)?;
@@ -94,6 +97,7 @@ impl Waits {
         ensures session { option_map (λ o. o.0) result ≡ option_map (λ h. h.session) (find is_over self.old) }
         ensures limit { option_map (λ o. o.1) result ≡ option_map (λ h. h.limit) (find is_over self.old) }
         ensures rest { MatchOption result (self.new ≡ self.old) (λ o. self.new ≡ without o.0 self.old) }
+        ensures order { is_ascending self.old ≡ true }
     {
         let over = first_over(&self.holds)?;
         drop_session(&mut self.holds, over.0);

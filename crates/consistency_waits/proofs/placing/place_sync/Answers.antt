@@ -1,6 +1,6 @@
 -- One more is changed, and at the end all are.
-use Rattle.std.proofs.Common.{◌≡◌, refl, ◌∙◌}
-use Rattle.consistency_waits.specs.Holding.{placed, ticked}
+use Rattle.std.proofs.Common.{refl, ◌∙◌}
+use Rattle.consistency_waits.specs.Holding.{placed}
 use Rattle.consistency_waits.proofs.EachOne.{one_more, all_changed}
 use Rattle.consistency_waits.proofs.placing.place_sync.Goals as goal
 

@@ -1,6 +1,6 @@
 -- Those so far are changed.
 use Rattle.std.proofs.Common.{◌≡◌}
-use Rattle.consistency_waits.specs.Holding.{placed, ticked}
+use Rattle.consistency_waits.specs.Holding.{ticked}
 use Rattle.consistency_waits.proofs.EachOne.{changed_to}
 use Rattle.consistency_waits.proofs.placing.tick_each.Given as goal
 

@@ -1,5 +1,5 @@
 -- What retain leaves is the filtered list.
-use Rattle.std.proofs.Common.{◌≡◌, not, rules}
+use Rattle.std.proofs.Common.{not, rules}
 use Rattle.std.specs.Prelude.{◌==◌}
 use Rattle.std.proofs.lemmas.Fn.{filter_same}
 use Rattle.consistency_waits.specs.Holding.{Held}
