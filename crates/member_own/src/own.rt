@@ -7,7 +7,7 @@ use gr_ids::{Memory, Pos};
 use std::marker::Model;
 
 /// The number of a member's last own value, whether it made its Online entry, its ticks, and the place of its Online entry.
-#[derive(Debug)]
+#[derive(Debug, Drop)]
 pub struct Own {
     made: u64,
     arrived: bool,
