@@ -10,6 +10,7 @@ pub mod Active
 pub mod Holders
 pub mod Replying
 pub mod Calling
+pub mod Awaited
 pub mod Finding
 pub mod Passing
 pub mod KeyHolders

@@ -1,12 +1,12 @@
 -- How the sessions of a member, and the tables that they read and write, stand for a history of the group's rules.
-use Rattle.std.specs.Prelude.{◌≡◌, is_some, ℕ, Bool, true, false, Option, Some, None, List, ◌==◌, IfSome, [], ◌∷◌, ◌&&◌, filter, map, nat_lt}
+use Rattle.std.specs.Prelude.{◌≡◌, ◌≤◌, is_some, ℕ, Bool, true, false, Option, Some, None, List, ◌==◌, IfSome, [], ◌∷◌, ◌&&◌, filter, map, nat_lt}
 use Rattle.gr_ids.specs.Names.{id_eq}
 use Rattle.gr_ids.specs.declared.names.Gtid.{Gtid}
 use Rattle.gr_ids.specs.declared.names.ValueId.{ValueId}
 use Rattle.key_items.specs.declared.item.Item.{Item}
 use Rattle.gr_ids.specs.declared.levels.MemberState.TheVariants.{Error, Offline, Online, Recovering}
 use Rattle.group_rules.specs.Events.{AskFails, AsksCommit, Answered, Begun, Called, Came, Cert, Changed, Committed, Did, Done, Ends, Enters, Founds, Gave, Is, Life, Made, Replied, Restores, Skips, Starts, Took}
-use Rattle.group_rules.specs.Life.{executed, state, view}
+use Rattle.group_rules.specs.Life.{executed, last_made, state, view}
 use Rattle.group_rules.specs.Queue.{is_done, queue}
 use Rattle.group_rules.specs.Member.{Member}
 use Rattle.group_rules.specs.Sessions.{Phase, Free as IsFree, Holding as IsHolding, Active as IsActive, Asking as IsAsking, begun_set, changes, is_active, is_holding, last_call, phase, sessions}
@@ -84,6 +84,11 @@ asks_as i IsFree = false
 asks_as i IsHolding = false
 asks_as i IsActive = false
 asks_as i (IsAsking j) = id_eq j i
+
+-- each value is waited for by one session at most, and was made
+pub record AsksOnce (l : Life) : Type 0 where
+  pub one : (i : ValueId) (s t : ℕ) → asks_as i (phase l s) ≡ true → asks_as i (phase l t) ≡ true → t ≡ s
+  pub made : (i : ValueId) (s : ℕ) → asks_as i (phase l s) ≡ true → i.number ≤ last_made l
 
 -- who holds which key is what the history says; a session that has a transaction has begun; one that was killed is active in the rules
 -- still; and a begin that is held holds no key

@@ -1,5 +1,5 @@
 // The sessions of a member stand for its history.
-ghost use Rattle.std.specs.Prelude.{◌≡◌, ◌∷◌, ◌++◌, ℕ, [], List, None, Option, Some, map, true, false, ◌==◌, filter, not};
+ghost use Rattle.std.specs.Prelude.{◌≡◌, ◌≤◌, ◌∷◌, ◌++◌, ℕ, [], List, None, Option, Some, map, true, false, ◌==◌, filter, not};
 ghost use Rattle.group_rules.specs.declared.requests.Request.{Request};
 ghost use Rattle.gr_ids.specs.declared.levels.Level.{Level};
 ghost use Rattle.gr_ids.specs.declared.names.Gtid.{Gtid};
@@ -8,7 +8,7 @@ ghost use Rattle.gtid_sets.specs.Sets.{Gtids};
 ghost use Rattle.key_items.specs.declared.item.Item.{Item};
 ghost use Rattle.key_items.specs.declared.change.Change.{Change};
 ghost use Rattle.group_rules.specs.Events.{AsksCommit, Begun, Called, Cert, Changed, Did, Done, Ends as EndsIn, Is, Life};
-ghost use Rattle.group_rules.specs.Life.{certs, state};
+ghost use Rattle.group_rules.specs.Life.{certs, last_made, state};
 ghost use Rattle.group_rules.specs.Queue.{at_place, is_done, queue};
 ghost use Rattle.group_rules.specs.Holds.{is_after};
 ghost use Rattle.group_rules.specs.Member.{Member as AnyMember, fall, for_each, push};
@@ -27,9 +27,9 @@ ghost use Rattle.local_sessions.specs.declared.tables.Tables.{Tables as AnyTable
 ghost use Rattle.local_sessions.specs.declared.told.TakenOwn.{TakenOwn};
 ghost use Rattle.local_sessions.specs.declared.commit_step.CommitStep.TheVariants.{Ready, Said};
 ghost use Rattle.local_sessions.specs.Standing.{Active, Asking, Session, ascend, at_stage, begins, changed_at, is_held, session_in, stage_of};
-ghost use Rattle.local_sessions.specs.Replies.{Asks, Does, Ends, Holds, Writing, keys_after, sessions_after};
+ghost use Rattle.local_sessions.specs.Replies.{Asks, Does, Ends, Holds, Reply as AnyReply, Writing, keys_after, sessions_after};
 ghost use Rattle.local_sessions.specs.Others.{answer_of, answers_left, asking, killed_by, left, sessions_left, unless_killed, without_told};
-ghost use Rattle.local_sessions.specs.Following.{LeftActive, LocksOf, StandFor, TablesOf, asks_as, does_place, is_free, touches, done_places, place_of, rise};
+ghost use Rattle.local_sessions.specs.Following.{AsksOnce, LeftActive, LocksOf, StandFor, TablesOf, asks_as, does_place, is_free, touches, done_places, place_of, rise};
 ghost use Rattle.local_sessions.specs.Acting.{TakenOf, after_reply, reply_to, sent_as, tell, told_to};
 
 /// Where the sessions and the tables stand for a history, and what was left is active, the reply to each call is what the rules of the group give.
@@ -97,6 +97,20 @@ pub fn decisions_are_those_of_the_rules()
     ensures conflicted { (xs : List Session) (k : Locked) (a : AnyMember) (i : ValueId) (g : Gtid) → ascend xs ≡ true → StandFor xs a.life → LocksOf k a.life
         → ((s t : ℕ) → asks_as i (phase a.life s) ≡ true → asks_as i (phase a.life t) ≡ true → t ≡ s)
         → for_each (answer_conflict i g) (sessions a.life) a ≡ told_to (asking xs i) (answer_of (Conflict g)) a }
+{}
+
+/// Each value is waited for by one session at most: a commit is asked as a value that is made next, and those that were asked before have
+/// been made.
+pub fn each_value_is_awaited_once()
+    ensures none { AsksOnce [] }
+    ensures passed { (l : Life) (d : Did) → touches d ≡ false → last_made l ≤ last_made (d ∷ l) → AsksOnce l → AsksOnce (d ∷ l) }
+    ensures fallen { (l : Life) (c : AnyCause) → AsksOnce l → AsksOnce (Is Error c ∷ l) }
+    ensures called { (l : Life) (s : ℕ) (v : Level) (w : ℕ) → AsksOnce l → AsksOnce (Called s v w ∷ l) }
+    ensures begun { (l : Life) (s : ℕ) (e : Gtids) (y : Option ℕ) → AsksOnce l → AsksOnce (Begun s e y ∷ l) }
+    ensures changed { (l : Life) (s : ℕ) (c : Change) → AsksOnce l → AsksOnce (Changed s c ∷ l) }
+    ensures ended { (l : Life) (s : ℕ) → AsksOnce l → AsksOnce (EndsIn s ∷ l) }
+    ensures done { (l : Life) (p : ℕ) → AsksOnce l → AsksOnce (Done p ∷ l) }
+    ensures replied { (s : ℕ) (r : Request) (q : AnyReply) (a : AnyMember) → AsksOnce a.life → AsksOnce (after_reply s r q a).life }
 {}
 
 /// When the member takes ERROR, its sessions are told what the rules of the group tell them; those that are left stand for its history, and
