@@ -21,3 +21,4 @@ pub mod Falling
 pub mod FallFrees
 pub mod Remaining
 pub mod Queued
+pub mod Certified

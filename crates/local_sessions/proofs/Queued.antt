@@ -61,11 +61,11 @@ taken l (d ∷ ds) c n = go (is_done l d.place) refl (taken l ds c n)
 
 -- ---- one more is done
 
-abbrev before : ℕ → List Cert → Bool
+abbrev pub before : ℕ → List Cert → Bool
 before p [] = true
 before p (c ∷ cs) = nat_lt p c.place
 
-rise_parts : (c : Cert) (cs : List Cert) → rise (c ∷ cs) ≡ true → (before c.place cs ≡ true) × (rise cs ≡ true)
+pub rise_parts : (c : Cert) (cs : List Cert) → rise (c ∷ cs) ≡ true → (before c.place cs ≡ true) × (rise cs ≡ true)
 rise_parts c [] h = (refl, refl)
 rise_parts c (d ∷ ds) h = and_parts (nat_lt c.place d.place) (rise (d ∷ ds)) h
 
@@ -104,7 +104,7 @@ found_is (d ∷ ds) p c e = go (d.place == p) refl (found_is ds p c)
     go true f r = let z : Some d ≡ Some c = rw f at e in let same : d ≡ c = cc in ap (λ (x : Cert). x.place) (sym same) ∙ eqb-true d.place p f
     go false f r = r (rw f at e)
 
-behind : (cs : List Cert) (p q : ℕ) (c : Cert) → before q cs ≡ true → rise cs ≡ true → at_place cs p ≡ Some c → nat_lt q p ≡ true
+pub behind : (cs : List Cert) (p q : ℕ) (c : Cert) → before q cs ≡ true → rise cs ≡ true → at_place cs p ≡ Some c → nat_lt q p ≡ true
 behind [] p q c h k e = absurd cc
 behind (d ∷ ds) p q c h k e = go (d.place == p) refl (behind ds p d.place c (rise_parts d ds k).0 (rise_parts d ds k).1)
   where

@@ -1,5 +1,5 @@
 // The sessions of a member stand for its history.
-ghost use Rattle.std.specs.Prelude.{◌≡◌, ◌≤◌, ◌∷◌, ◌++◌, ℕ, [], List, None, Option, Some, map, true, false, ◌==◌, filter, not};
+ghost use Rattle.std.specs.Prelude.{◌≡◌, ◌≤◌, ◌∷◌, ◌++◌, ℕ, [], List, None, Option, Some, map, true, false, ◌==◌, filter, not, reverse};
 ghost use Rattle.group_rules.specs.declared.requests.Request.{Request};
 ghost use Rattle.gr_ids.specs.declared.levels.Level.{Level};
 ghost use Rattle.gr_ids.specs.declared.names.Gtid.{Gtid};
@@ -138,10 +138,11 @@ pub fn the_left_stay_active()
 {}
 
 /// The places that are done, of those queued, stay the places of the locks: one more is queued, or done, or committed, and a fall leaves
-/// none. A key that they hold is held by the one that the rules of the group name.
+/// none. A key that they hold is held by the one that the rules of the group name. What is queued at a place is what was certified there.
 pub fn places_follow_their_queue()
     ensures none { (l : Life) (cs : List Cert) → ((p : ℕ) → is_done l p ≡ false) → done_places l cs ≡ [] }
     ensures passed { (l : Life) (d : Did) (cs : List Cert) → does_place d ≡ false → done_places (d ∷ l) cs ≡ done_places l cs }
+    ensures queued { (l : Life) (me : Inc) (p : ℕ) (c : Cert) → rise (reverse (certs l)) ≡ true → at_place (queue l me) p ≡ Some c → at_place (certs l) p ≡ Some c }
     ensures taken { (l : Life) (cs : List Cert) (c : Cert) → is_done l c.place ≡ false → done_places l (cs ++ c ∷ []) ≡ done_places l cs }
     ensures fallen { (a : AnyMember) (c : AnyCause) (me : Inc) → queue (fall c a).life me ≡ [] }
     ensures named { (l : Life) (i : Item) (cs : List Cert) → place_at (done_places l cs) i ≡ place_holder l i cs }

@@ -1,4 +1,5 @@
 -- Who is named, one more that is done, one that is committed.
+use Rattle.local_sessions.proofs.Certified.{queued}
 use Rattle.local_sessions.proofs.FallFrees.{emptied}
 use Rattle.local_sessions.proofs.Queued.{named, none, passed, taken, done, freed}
 use Rattle.local_sessions.proofs.laws.places_follow_their_queue.Goals as goal
@@ -23,3 +24,6 @@ returns-clause-taken c l cs x n = taken l cs x n
 
 pub returns-clause-fallen : goal.returns-clause-fallen
 returns-clause-fallen c a x me = emptied a x me
+
+pub returns-clause-queued : goal.returns-clause-queued
+returns-clause-queued c l me p x k e = queued l me p x k e
