@@ -1,8 +1,8 @@
 -- The changes of a transaction, one after another.
-use Rattle.std.proofs.Common.{◌≡◌, ℕ, suc, ◌+◌, ◌<◌, ◌≤◌, Bool, true, false, ◌&&◌, Option, Some, None, List, [], ◌∷◌, ◌++◌, map, length, not, Bor, refl, sym, ap, ◌∙◌, arith}
-use Rattle.std.specs.Prelude.{if◌then◌else◌, nat_lt, is_some, option_copied}
+use Rattle.std.proofs.Common.{◌≡◌, ℕ, Bool, true, false, ◌&&◌, Option, Some, None, List, [], ◌∷◌, ◌++◌, length, not, Bor, refl, sym, ap, ◌∙◌, arith}
+use Rattle.std.specs.Prelude.{is_some, option_copied}
 use Rattle.std.specs.List.{list_all}
-use Rattle.std.proofs.lemmas.Bool.{lt-ltb, ltb-true, true≢false}
+use Rattle.std.proofs.lemmas.Bool.{true≢false}
 use Rattle.gtid_sets.specs.Sets.{Gtids, has}
 use Rattle.gr_ids.specs.declared.names.Gtid.{Gtid}
 use Rattle.key_items.specs.declared.item.Item.{Item}
@@ -13,7 +13,7 @@ use Rattle.group_rules.specs.Rows.{row_after, changed_row, row_by, fits}
 use Rattle.key_items.specs.declared.change.ChangeKind.{ChangeKind}
 use Rattle.key_items.specs.declared.change.ChangeKind.TheVariants.{Insert as Inserts, Update as Updates, Delete as Deletes}
 use Rattle.row_store.specs.declared.fault.RowFault.TheVariants.{DuplicateKey, NoRow}
-use Rattle.row_store.specs.Chains.{Chain, row_at, row_with, fault_of, IsFoldOf, IsApplied}
+use Rattle.row_store.specs.Chains.{Chain, row_with, fault_of, IsFoldOf, IsApplied}
 use Rattle.row_store.specs.Presence.{is_there}
 
 -- one change, and then the others

@@ -2,3 +2,10 @@ pub mod Versions
 pub mod ChainReads
 pub mod Folds
 pub mod RowOrder
+pub mod Members
+pub mod Known
+pub mod Followed
+pub mod Commits
+pub mod LastRows
+pub mod Kept
+pub mod Servers

@@ -1,6 +1,6 @@
 -- Rows with their versions: for each item a chain, which each transaction that changes the item extends by what it left of the row.
 -- (MySQL 8.0 Reference Manual, InnoDB Multi-Versioning: a consistent read sees what the transactions of its snapshot wrote.)
-use Rattle.std.specs.Prelude.{◌≡◌, ℕ, Bool, true, false, Option, Some, None, List, [], ◌∷◌, ◌++◌, fold, nat_lt, is_some, if◌then◌else◌}
+use Rattle.std.specs.Prelude.{◌≡◌, ℕ, Bool, Option, Some, None, List, [], ◌∷◌, ◌++◌, fold, nat_lt, if◌then◌else◌}
 use Rattle.std.specs.List.{list_all}
 use Rattle.gtid_sets.specs.Sets.{Gtids, has}
 use Rattle.key_items.specs.declared.item.Item.{Item}
@@ -11,7 +11,7 @@ use Rattle.key_items.specs.declared.change.ChangeKind.TheVariants.{Insert as Ins
 use Rattle.gr_ids.specs.declared.names.Gtid.{Gtid}
 use Rattle.group_rules.specs.declared.said.Row.{Row}
 use Rattle.group_rules.specs.Events.{Cert}
-use Rattle.group_rules.specs.Rows.{changed_row, fits, row_by}
+use Rattle.group_rules.specs.Rows.{changed_row, row_by}
 use Rattle.row_store.specs.declared.fault.RowFault.{RowFault}
 use Rattle.row_store.specs.declared.fault.RowFault.TheVariants.{DuplicateKey, NoRow}
 pub use Rattle.row_store.specs.declared.version.Version.{Version}

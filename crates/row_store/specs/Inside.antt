@@ -1,5 +1,5 @@
 -- How the chains stand in a map.
-use Rattle.std.specs.Prelude.{ℕ, ◌-◌, Bool, false, ◌||◌, List, fold, length, nat_lt, vec_capacity}
+use Rattle.std.specs.Prelude.{◌-◌, Bool, false, ◌||◌, List, fold, length, nat_lt, vec_capacity}
 use Rattle.std.specs.Global.{Vec}
 use Rattle.key_items.specs.declared.item.Item.{Item}
 use Rattle.gr_ids.specs.declared.names.Gtid.{Gtid}

@@ -1,3 +1,4 @@
 pub mod Chains
+pub mod Following
 pub mod Inside
 pub mod Presence

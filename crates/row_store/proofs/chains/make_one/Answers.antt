@@ -1,6 +1,5 @@
 -- The chain keeps its versions and gets room; a new chain has none.
-use Rattle.std.proofs.Common.{◌≡◌, ◌≤◌, Some, None, ap, sym, refl, ◌∙◌, arith}
-use Rattle.std.specs.Prelude.{vec_capacity}
+use Rattle.std.proofs.Common.{◌≡◌, Some, ap, sym, refl, ◌∙◌, arith}
 use Rattle.row_store.proofs.ChainReads.{Changes, at, versions_in, spare_in, same_versions, more_spare, spare_here}
 use Rattle.row_store.proofs.chains.make_one.Goals as goal
 

@@ -1,5 +1,5 @@
 -- There is room for one more, and still for those before.
-use Rattle.std.proofs.Common.{◌≡◌, ◌<◌, ◌+◌, true, take, map, get_or, sym, ap, ◌∙◌, arith}
+use Rattle.std.proofs.Common.{◌≡◌, ◌<◌, true, take, ◌∙◌, arith}
 use Rattle.std.specs.Prelude.{nat_lt}
 use Rattle.std.specs.List.{list_all}
 use Rattle.std.proofs.lemmas.Bool.{lt-ltb, ltb-true}

@@ -1,5 +1,5 @@
 -- There is room for those so far, and no version has changed.
-use Rattle.std.proofs.Common.{◌≡◌, true, take, map}
+use Rattle.std.proofs.Common.{◌≡◌, true, take}
 use Rattle.std.specs.Prelude.{nat_lt}
 use Rattle.std.specs.List.{list_all}
 use Rattle.key_items.specs.declared.item.Item.{Item}

@@ -1,5 +1,5 @@
 -- One change more is put.
-use Rattle.std.proofs.Common.{◌≡◌, List, ◌∷◌, [], true, map, length, sym, ap, subst, refl, ◌∙◌, arith}
+use Rattle.std.proofs.Common.{◌≡◌, [], map, sym, ap, ◌∙◌, arith}
 use Rattle.std.specs.List.{list_all}
 use Rattle.key_items.specs.declared.change.Change.{Change}
 use Rattle.group_rules.specs.Rows.{changed_row}

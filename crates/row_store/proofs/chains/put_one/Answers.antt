@@ -1,5 +1,5 @@
 -- The version goes into the chain of its item.
-use Rattle.std.proofs.Common.{◌≡◌, Some, ap, sym, refl, ◌∙◌}
+use Rattle.std.proofs.Common.{Some, ap, sym, refl, ◌∙◌}
 use Rattle.std.proofs.lemmas.Bool.{true≢false}
 use Rattle.std.specs.Prelude.{if◌then◌else◌}
 use Rattle.gtid_sets.specs.Sets.{has}

@@ -1,5 +1,4 @@
 -- The keys of the map ascend, so the rows do.
-use Rattle.std.proofs.Common.{map}
 use Rattle.row_store.proofs.RowOrder.{rows_ascend}
 use Rattle.row_store.proofs.rows.rows_of_chains.Goals as goal
 

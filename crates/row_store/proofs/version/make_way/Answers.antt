@@ -1,5 +1,5 @@
 -- What goes isn't seen.
-use Rattle.std.proofs.Common.{◌≡◌, ap, sym, ◌∙◌}
+use Rattle.std.proofs.Common.{ap, sym, ◌∙◌}
 use Rattle.row_store.specs.Inside.{is_newest}
 use Rattle.row_store.proofs.Versions.{seen_without}
 use Rattle.row_store.proofs.version.make_way.Goals as goal

@@ -1,5 +1,5 @@
 -- The newest version is the one that was put.
-use Rattle.std.proofs.Common.{◌≡◌, ap, ◌∙◌}
+use Rattle.std.proofs.Common.{ap, ◌∙◌}
 use Rattle.row_store.specs.Chains.{last_row}
 use Rattle.row_store.specs.Inside.{is_newest}
 use Rattle.row_store.proofs.Versions.{last_more, newest_more, gtid_itself}

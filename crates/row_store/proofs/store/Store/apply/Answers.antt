@@ -1,5 +1,5 @@
 -- Where there is room, a version can be put.
-use Rattle.std.proofs.Common.{◌≡◌, true, Bool, ◌||◌, map, refl, ap, sym, ◌∙◌}
+use Rattle.std.proofs.Common.{map, ap, ◌∙◌}
 use Rattle.std.specs.Prelude.{nat_lt}
 use Rattle.key_items.specs.declared.change.Change.{Change}
 use Rattle.row_store.specs.Chains.{spare_of, has_room}

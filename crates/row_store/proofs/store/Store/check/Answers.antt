@@ -1,6 +1,6 @@
 -- Whether the row is there decides.
-use Rattle.std.proofs.Common.{◌≡◌, ℕ, List, Option, Some, None, Bool, ap, sym, refl, ◌∙◌}
-use Rattle.std.specs.Prelude.{is_some, option_copied}
+use Rattle.std.proofs.Common.{ap, sym, ◌∙◌}
+use Rattle.std.specs.Prelude.{is_some}
 use Rattle.row_store.specs.Chains.{row_now, row_own}
 use Rattle.row_store.specs.Presence.{is_there}
 use Rattle.row_store.proofs.Folds.{there_is, fits_taken, fits_free, fits_there, fits_gone, copied_some}

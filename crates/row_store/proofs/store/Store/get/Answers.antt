@@ -1,7 +1,7 @@
 -- The chain of the item, if there is one.
-use Rattle.std.proofs.Common.{◌≡◌, ap, sym, ◌∙◌}
+use Rattle.std.proofs.Common.{ap, sym, ◌∙◌}
 use Rattle.std.specs.Prelude.{option_copied}
-use Rattle.row_store.specs.Chains.{last_row, seen_in}
+use Rattle.row_store.specs.Chains.{last_row}
 use Rattle.row_store.proofs.ChainReads.{versions_in, reads}
 use Rattle.row_store.proofs.store.Store.get.Goals as goal
 
