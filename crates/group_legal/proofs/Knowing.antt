@@ -31,7 +31,7 @@ use Rattle.group_rules.specs.World.{Past, Does, Writes, Halts, life_in, nothing_
 use Rattle.group_bridge.specs.Left as left
 use Rattle.group_runs.specs.Runs.{IsSetup, is_founder, running_in, stored_after, stored_in, AllDid, IsDone}
 use Rattle.group_runs.specs.Servers.{IsWritten, OfServers}
-use Rattle.group_order.specs.OneLog.{IsReady, GivenBy, OneLogOf}
+use Rattle.group_order.specs.OneLog.{IsReady, GivenBy, LogOver}
 use Rattle.group_order.proofs.Nexts.{past_self, past_of, did_past, done_at}
 use Rattle.group_order.proofs.Shapes.{Shape, Asks, shapes, one_more}
 use Rattle.group_order.proofs.Spans.{enters_waits}
@@ -344,7 +344,7 @@ of_group t (e ∷ m) d h = go (cons_cases (law.cert_of t (suc (length m)) e) (la
 
 -- ---- one thing more
 
-module _ (t : Setup) (setup : IsSetup t) (w : Past) (x : OneLogOf t w) (done : AllDid (IsDone t) w) (servers : OfServers t w) (spelled : Spelled) (small : HasSmallNumbers w) (v : Past) (v_past : IsPast v w)
+module _ (t : Setup) (setup : IsSetup t) (w : Past) (x : LogOver t w) (done : AllDid (IsDone t) w) (servers : OfServers t w) (spelled : Spelled) (small : HasSmallNumbers w) (v : Past) (v_past : IsPast v w)
     (judges : (p : Past) → IsPast p v → (i : Inc) → IsReady t i (life_in p i) → 0 < length (life_in p i) → TakesOf t x.log (base_in t x.log w i) (life_in p i) × JudgesAs t x.log (base_in t x.log w i) (life_in p i)) where
   abbrev list : List law.Placed
   list = list_of t x.log

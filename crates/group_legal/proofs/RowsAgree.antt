@@ -20,7 +20,7 @@ use Rattle.group_rules.specs.Legal.{IsPast, writes_in}
 use Rattle.group_rules.specs.World.{Past, Does, Writes, Halts, life_in}
 use Rattle.group_runs.specs.Runs.{IsSetup, running_in, stored_after, stored_in, AllDid, IsDone}
 use Rattle.group_runs.specs.Servers.{IsFounding, IsWritten, AllWritten, OfServers}
-use Rattle.group_order.specs.OneLog.{IsReady, OneLogOf}
+use Rattle.group_order.specs.OneLog.{IsReady, LogOver}
 use Rattle.group_order.proofs.Nexts.{past_self, past_of, done_at}
 use Rattle.group_laws.specs.Lists as listing
 use Rattle.group_laws.specs.Lists.{Mem}
@@ -252,7 +252,7 @@ module _ (t : Setup) (w : Past) (done : AllDid (IsDone t) w) (servers : OfServer
 
 -- ---- its rows
 
-module _ (t : Setup) (setup : IsSetup t) (w : Past) (x : OneLogOf t w) (done : AllDid (IsDone t) w) (servers : OfServers t w) (spelled : Spelled) (small : HasSmallNumbers w) (v : Past) (v_past : IsPast v w)
+module _ (t : Setup) (setup : IsSetup t) (w : Past) (x : LogOver t w) (done : AllDid (IsDone t) w) (servers : OfServers t w) (spelled : Spelled) (small : HasSmallNumbers w) (v : Past) (v_past : IsPast v w)
     (judges : (p : Past) → IsPast p v → (i : Inc) → IsReady t i (life_in p i) → 0 < length (life_in p i) → TakesOf t x.log (base_in t x.log w i) (life_in p i) × JudgesAs t x.log (base_in t x.log w i) (life_in p i))
     (p : Past) (k : IsPast p v) (i : Inc) (running : running_in p i.server ≡ Some i) where
   abbrev list : List law.Placed

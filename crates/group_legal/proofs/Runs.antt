@@ -37,7 +37,7 @@ use Rattle.group_rules.specs.World.{Happening, Past, Does, Writes, Halts, life_i
 use Rattle.group_bridge.specs.Left as left
 use Rattle.group_runs.specs.Runs.{IsSetup, is_founder, running_in, AllDid, ByRules, IsDone}
 use Rattle.group_runs.specs.Servers.{IsWritten, OfServers}
-use Rattle.group_order.specs.OneLog.{IsReady, GivenBy, TakenAs, Follows, OneLogOf}
+use Rattle.group_order.specs.OneLog.{IsReady, GivenBy, TakenAs, Follows, LogOver}
 use Rattle.group_order.proofs.Nexts.{past_self, past_of, did_past, done_at}
 use Rattle.group_order.proofs.Shapes.{Shape, shapes}
 use Rattle.group_laws.specs.Lists as listing
@@ -184,7 +184,7 @@ VerdictsAgree t = (base : List law.Placed) (l : Life) (o : Inc) (x : Txn) → Is
 
 -- ---- a run
 
-module _ (t : Setup) (setup : IsSetup t) (w : Past) (x : OneLogOf t w) (done : AllDid (IsDone t) w) (servers : OfServers t w) (spelled : Spelled) (reads : ReadBack) (small : HasSmallNumbers w) (ranges : MadeInRange w)
+module _ (t : Setup) (setup : IsSetup t) (w : Past) (x : LogOver t w) (done : AllDid (IsDone t) w) (servers : OfServers t w) (spelled : Spelled) (reads : ReadBack) (small : HasSmallNumbers w) (ranges : MadeInRange w)
     (tells : GiveTells t) (verdicts : VerdictsAgree t) where
   abbrev list : List law.Placed
   list = list_of t x.log
