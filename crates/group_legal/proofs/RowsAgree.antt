@@ -162,7 +162,7 @@ stored_writes (Writes m y ∷ p) n = go (m == n) (stored_writes p n)
     go true h = ap (λ ws. ws ++ y ∷ []) h
     go false h = h
 
-founding_writes : (p : Past) → IsFounding p → (n : ℕ) → writes_in p n ≡ []
+pub founding_writes : (p : Past) → IsFounding p → (n : ℕ) → writes_in p n ≡ []
 founding_writes [] f n = refl
 founding_writes (Does i d ∷ p) f n = founding_writes p (rest d f) n
   where
@@ -174,7 +174,7 @@ founding_writes (Halts m ∷ p) f n = founding_writes p f n
 founding_writes (Writes m y ∷ p) f n = absurd f
 
 -- those of a server aren't the group's
-writes_apart : (t : Setup) (p : Past) → AllWritten (IsWritten t) p → (n : ℕ) (y : OfflineWrite) → In y (writes_in p n) → bytes_eq y.gtid.source t.limits.group ≡ false
+pub writes_apart : (t : Setup) (p : Past) → AllWritten (IsWritten t) p → (n : ℕ) (y : OfflineWrite) → In y (writes_in p n) → bytes_eq y.gtid.source t.limits.group ≡ false
 writes_apart t [] s n y h = absurd h
 writes_apart t (Does i d ∷ p) s n y h = writes_apart t p s n y h
 writes_apart t (Halts m ∷ p) s n y h = writes_apart t p s n y h
@@ -219,7 +219,7 @@ module _ (t : Setup) (w : Past) (done : AllDid (IsDone t) w) (servers : OfServer
   did_writes p i (Restores y z) k h f = f h.0.running
   did_writes p i (Committed u) k h f = f h.0.running
 
-  life_writes : (p : Past) → IsPast p w → (i : Inc) → running_in p i.server ≡ Some i → (stored (life_in p i)).writes ≡ writes_in p i.server
+  pub life_writes : (p : Past) → IsPast p w → (i : Inc) → running_in p i.server ≡ Some i → (stored (life_in p i)).writes ≡ writes_in p i.server
   life_writes [] k i h = absurd (some_none (sym h))
   life_writes (Writes m y ∷ p) k i h = go (m == i.server) refl (life_writes p (past_of (Writes m y ∷ p) p w k (inr (past_self p))) i h)
     where

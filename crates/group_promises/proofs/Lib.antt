@@ -1,0 +1,4 @@
+pub mod Ran
+pub mod Taken
+pub mod Prepareds
+pub mod Entries
