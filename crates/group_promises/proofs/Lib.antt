@@ -2,3 +2,4 @@ pub mod Ran
 pub mod Taken
 pub mod Prepareds
 pub mod Entries
+pub mod Commits
