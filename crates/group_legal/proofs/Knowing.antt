@@ -219,7 +219,7 @@ descends_reverse : (cs : List Cert) → Ascends cs → Descends (reverse cs)
 descends_reverse [] h = tt
 descends_reverse (c ∷ cs) h = subst Descends (sym (reverse-append (c ∷ []) cs)) (descends_end (reverse cs) c (descends_reverse cs h.1) (λ d m. h.0 d (in_reverse d cs m)))
 
-ascends_given : (cs : List Cert) → Ascends cs → Ascends (map as_given cs)
+pub ascends_given : (cs : List Cert) → Ascends cs → Ascends (map as_given cs)
 ascends_given [] h = tt
 ascends_given (c ∷ cs) h = ((λ d m. let r = in_map cs d m in subst (λ (y : Cert). c.place < y.place) r.2 (h.0 r.0 r.1)), ascends_given cs h.1)
 

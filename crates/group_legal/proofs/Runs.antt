@@ -267,10 +267,10 @@ module _ (t : Setup) (setup : IsSetup t) (w : Past) (x : LogOver t w) (done : Al
         go None e = absurd (false≢true (sym (((shape q h i).joiner f).unentered e).give ∙ y))
 
     -- it ends with its Add
-    given_is : (q : Past) → IsPast q p → (i : Inc) (u : Welcome) → entered (life_in q i) ≡ Some u → base i ≡ upto u.place list
+    pub given_is : (q : Past) → IsPast q p → (i : Inc) (u : Welcome) → entered (life_in q i) ≡ Some u → base i ≡ upto u.place list
     given_is q h i u e = ap (given_to list) (stays_entered t w done q (within q h) i u e)
 
-    add_in : (q : Past) → IsPast q p → (i : Inc) (u : Welcome) → entered (life_in q i) ≡ Some u → (EndsWithAdd i (base i) × (u.place ≤ length list)) × (1 ≤ u.place)
+    pub add_in : (q : Past) → IsPast q p → (i : Inc) (u : Welcome) → entered (life_in q i) ≡ Some u → (EndsWithAdd i (base i) × (u.place ≤ length list)) × (1 ≤ u.place)
     add_in q h i u e =
         let y = entered_at q i u e in
         let m = past_of q (Does i (Enters u) ∷ y.0) w (within q h) y.1 in

@@ -3,3 +3,4 @@ pub mod Taken
 pub mod Prepareds
 pub mod Entries
 pub mod Commits
+pub mod Gives
