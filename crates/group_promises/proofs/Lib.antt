@@ -4,3 +4,4 @@ pub mod Prepareds
 pub mod Entries
 pub mod Commits
 pub mod Gives
+pub mod Truths
