@@ -13,7 +13,7 @@ use Rattle.node_rules.proofs.Incs.{inc_is}
 use Rattle.group_rules.specs.declared.marks.Effect.TheVariants.{Plain}
 use Rattle.group_rules.specs.Events.{Made, Took, Life, Setup, Entry, Cert}
 use Rattle.group_rules.specs.Life.{executed, view, taken, certs, cert_of, last_made}
-use Rattle.group_rules.specs.View.{Seat, is_online_state, seated, online_incs, is_online}
+use Rattle.group_rules.specs.View.{View, online_incs, is_online}
 use Rattle.group_rules.specs.Rows.{known}
 use Rattle.group_rules.specs.Commit.{has_prepared, required}
 use Rattle.group_rules.specs.Legal.{IsPast}
@@ -28,16 +28,19 @@ use Rattle.group_laws.specs.View as seen
 use Rattle.group_laws.specs.Life as lives
 use Rattle.group_laws.specs.Lawful as lawful
 use Rattle.group_laws.proofs.Acks.{upto_is_past, values_past}
+use Rattle.group_laws.proofs.Lists.{any_mem}
 use Rattle.group_laws.proofs.Names.{gtid_eq_same}
 use Rattle.group_laws.proofs.Views.{rank, rank_up, active_rank}
 use Rattle.group_lives.specs.Lives.{does_entry, placed, life_of}
 use Rattle.group_lives.specs.Sound.{IsNew as AddsOne, AddsNew}
 use Rattle.group_lives.proofs.Standings.{stands}
 use Rattle.group_lives.proofs.Taking.{views_agree}
+use Rattle.group_lawful.proofs.Commits.{in_mem}
 use Rattle.group_legal.specs.Bases.{TakesOf, JudgesAs}
 use Rattle.group_legal.specs.OwnRanges.{MadeInRange}
 use Rattle.group_legal.proofs.Newcomers.{adds_new}
 use Rattle.group_legal.proofs.Takers.{adds_past}
+use Rattle.group_legal.proofs.Completes.{in_online}
 use Rattle.group_legal.proofs.Points.{did_here}
 use Rattle.group_legal.proofs.Stocks.{in_first}
 use Rattle.group_legal.proofs.OwnValues.{Own, owns, last_own, last_is, AreOwn, are_own, own_made}
@@ -58,19 +61,10 @@ own_below o (y ∷ xs) k x (inl e) = let z = ap (λ (u : Own). u.value.id.number
 own_below o (y ∷ xs) k x (inr h) = let z = own_below o xs k.1 x h in let n = k.0.1 in omega (arith, z, n)
 
 -- one of those ONLINE has a seat that is
-online_up : (ss : List Seat) (m : Inc) → has_inc (seated (filter (λ (s : Seat). is_online_state s.state) ss)) m ≡ true → list_any (λ (s : Seat). inc_eq s.joiner.inc m && is_online_state s.state) ss ≡ true
-online_up [] m h = absurd (false≢true h)
-online_up (s ∷ ss) m h = go (is_online_state s.state) refl (online_up ss m)
-  where
-    this : is_online_state s.state ≡ true → (has_inc (seated (filter (λ (s : Seat). is_online_state s.state) ss)) m ≡ true → (list_any (λ (s : Seat). inc_eq s.joiner.inc m && is_online_state s.state) ss) ≡ true)
-        → (inc_eq s.joiner.inc m ≡ true) ⊎ (has_inc (seated (filter (λ (s : Seat). is_online_state s.state) ss)) m ≡ true) → ((inc_eq s.joiner.inc m && is_online_state s.state) || (list_any (λ (s : Seat). inc_eq s.joiner.inc m && is_online_state s.state) ss)) ≡ true
-    this e k (inl q) = or_left (inc_eq s.joiner.inc m && is_online_state s.state) (list_any (λ (s : Seat). inc_eq s.joiner.inc m && is_online_state s.state) ss) (and_from (inc_eq s.joiner.inc m) (is_online_state s.state) q e)
-    this e k (inr q) = or_right (inc_eq s.joiner.inc m && is_online_state s.state) (list_any (λ (s : Seat). inc_eq s.joiner.inc m && is_online_state s.state) ss) (k q)
-
-    go : (b : Bool) → is_online_state s.state ≡ b → (has_inc (seated (filter (λ (s : Seat). is_online_state s.state) ss)) m ≡ true → (list_any (λ (s : Seat). inc_eq s.joiner.inc m && is_online_state s.state) ss) ≡ true)
-        → ((inc_eq s.joiner.inc m && is_online_state s.state) || (list_any (λ (s : Seat). inc_eq s.joiner.inc m && is_online_state s.state) ss)) ≡ true
-    go true e k = this e k (or_cases (inc_eq s.joiner.inc m) (has_inc (seated (filter (λ (s : Seat). is_online_state s.state) ss)) m) (rw e at h))
-    go false e k = let n : has_inc (seated (filter (λ (s : Seat). is_online_state s.state) ss)) m ≡ true = rw e at h in or_right (inc_eq s.joiner.inc m && is_online_state s.state) (list_any (λ (s : Seat). inc_eq s.joiner.inc m && is_online_state s.state) ss) (k n)
+online_up : (v : View) (m : Inc) → has_inc (online_incs v) m ≡ true → is_online v m ≡ true
+online_up v m h =
+    let x = any_mem (λ x. inc_eq x m) (online_incs v) h in
+    in_online v.seats m (in_mem m (online_incs v) (subst (λ y. Mem y (online_incs v)) (inc_is x.0 m x.2) x.1))
 
 module _ (t : Setup) (w : Past) (s : Ran t w) where
   judged_took : (p : Past) (i : Inc) (e : Entry) → IsPast (Does i (Took e) ∷ p) w
@@ -145,7 +139,7 @@ module _ (t : Setup) (w : Past) (s : Ran t w) where
           by (inl a) z = false≢true (subst (λ l. has_inc (online_incs (view t l)) j.inc ≡ true) a z)
           by (inr (x, q, k, a, b)) z =
               let le = ((ran.knows t w s p in_w).lives i).below c n in
-              never x q k (omega (arith, le, b)) (online_up (view t (Took x ∷ life_in q i)).seats j.inc (subst (λ l. has_inc (online_incs (view t l)) j.inc ≡ true) a z))
+              never x q k (omega (arith, le, b)) (online_up (view t (Took x ∷ life_in q i)) j.inc (subst (λ l. has_inc (online_incs (view t l)) j.inc ≡ true) a z))
 
     -- ---- a transaction that it certifies
 

@@ -5,3 +5,4 @@ pub mod Entries
 pub mod Commits
 pub mod Gives
 pub mod Truths
+pub mod Steps

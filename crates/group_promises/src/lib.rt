@@ -1,15 +1,17 @@
 //! What every run of the group promises to its members.
 #![tactic(auto)]
 
-ghost use Rattle.group_promises.specs.Promises.{EveryHistoryIsTrue};
+ghost use Rattle.group_promises.specs.Promises.{EveryHistoryIsTrue, EveryStepIsPromised};
 
 use group_lives::{a_give_tells_of_the_list, certifiers_agree};
 use group_order::slots_are_of_one_log;
 use group_runs::{runs_are_of_nodes, servers_write_apart};
 use txn_forms::bytes_of_bodies;
 
-/// Every run promises to each member what its code rests on: at each time up to which numbers and own values stayed within the ranges of their forms, its
-/// history is true.
+/// Every run promises to each member what its code rests on: at each time up to which the numbers of GTIDs and what own values hold stayed within the ranges of
+/// their forms, its history is true. Entries come at consecutive places; a transaction that is certified, by an entry or by a Give, is new to the member;
+/// nobody is added twice; an own value that is taken was made; a transaction shares no row with a later one that is committed before it; and a member whose
+/// server wrote offline commits nothing.
 pub fn every_history_is_true()
     ensures { EveryHistoryIsTrue }
 {
@@ -19,4 +21,12 @@ pub fn every_history_is_true()
     bytes_of_bodies();
     a_give_tells_of_the_list();
     certifiers_agree();
+}
+
+/// What an incarnation does in a step is promised to be true as long as its own history stays within its ranges, if all that had happened before the step did:
+/// so a member need look at no history but its own.
+pub fn every_step_is_promised()
+    ensures { EveryStepIsPromised }
+{
+    every_history_is_true();
 }
