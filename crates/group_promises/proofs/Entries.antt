@@ -1,8 +1,6 @@
 -- An entry that is taken is true of the history before it.
-use Rattle.std.proofs.Common.{◌≡◌, ◌⊎◌, inl, inr, ℕ, suc, ◌≤◌, ◌<◌, Bool, true, false, ◌&&◌, ◌||◌, Option, Some, None, List, [], ◌∷◌, refl, sym, ap, subst, ◌∙◌, length, arith}
-use Rattle.std.specs.Prelude.{filter}
-use Rattle.std.specs.List.{list_any}
-use Rattle.std.proofs.lemmas.Bool.{false≢true, cases_Bool, and_from, or_cases, or_left, or_right}
+use Rattle.std.proofs.Common.{◌≡◌, inl, inr, suc, ◌≤◌, ◌<◌, true, false, Some, List, [], ◌∷◌, sym, ap, subst, ◌∙◌, length, arith}
+use Rattle.std.proofs.lemmas.Bool.{false≢true, cases_Bool}
 use Rattle.gr_ids.specs.Names.{inc_eq, has_inc, gtid_eq}
 use Rattle.gr_ids.specs.declared.names.Inc.{Inc}
 use Rattle.gtid_sets.specs.Sets.{has}
@@ -11,7 +9,7 @@ use Rattle.slot_values.specs.declared.value.What.TheVariants.{Add}
 use Rattle.node_rules.specs.Lists.{In}
 use Rattle.node_rules.proofs.Incs.{inc_is}
 use Rattle.group_rules.specs.declared.marks.Effect.TheVariants.{Plain}
-use Rattle.group_rules.specs.Events.{Made, Took, Life, Setup, Entry, Cert}
+use Rattle.group_rules.specs.Events.{Made, Took, Setup, Entry, Cert}
 use Rattle.group_rules.specs.Life.{executed, view, taken, certs, cert_of, last_made}
 use Rattle.group_rules.specs.View.{View, online_incs, is_online}
 use Rattle.group_rules.specs.Rows.{known}

@@ -1,23 +1,21 @@
 -- A Give that is taken up is true of the history before it.
-use Rattle.std.proofs.Common.{◌≡◌, ◌⊎◌, inl, inr, ℕ, suc, ◌≤◌, ◌<◌, Bool, true, false, not, Option, Some, None, List, [], ◌∷◌, ◌++◌, refl, sym, ap, subst, ◌∙◌, length, arith}
+use Rattle.std.proofs.Common.{◌≡◌, inl, inr, suc, ◌≤◌, ◌<◌, true, false, not, None, List, [], ◌∷◌, refl, sym, ap, subst, ◌∙◌, length, arith}
 use Rattle.std.specs.Prelude.{filter, map, nat_le}
 use Rattle.std.proofs.lemmas.Bool.{false≢true, cases_Bool}
-use Rattle.gr_ids.specs.Names.{inc_eq, gtid_eq}
+use Rattle.gr_ids.specs.Names.{gtid_eq}
 use Rattle.gr_ids.specs.declared.names.Inc.{Inc}
-use Rattle.gr_ids.specs.declared.names.Gtid.{Gtid}
-use Rattle.gtid_sets.specs.Canonical.{IsUuid, IsNumber}
 use Rattle.gtid_sets.specs.Sets.{has}
 use Rattle.node_rules.specs.Lists.{In}
 use Rattle.node_rules.proofs.Incs.{inc_is}
 use Rattle.group_rules.specs.Names.{Give}
-use Rattle.group_rules.specs.Events.{Took, Restores, Life, Setup, Entry, Stored, Cert}
+use Rattle.group_rules.specs.Events.{Took, Restores, Setup, Stored, Cert}
 use Rattle.group_rules.specs.Life.{executed, taken, certs, stored}
 use Rattle.group_rules.specs.Queue.{is_own}
 use Rattle.group_rules.specs.Rows.{known}
 use Rattle.group_rules.specs.Commit.{has_prepared}
 use Rattle.group_rules.specs.Legal.{IsPast}
 use Rattle.group_rules.specs.World.{Past, Does, life_in}
-use Rattle.group_runs.specs.Runs.{is_founder, AllDid, IsDone}
+use Rattle.group_runs.specs.Runs.{is_founder}
 use Rattle.group_order.specs.OneLog.{IsReady, GivenBy}
 use Rattle.group_order.proofs.Nexts.{past_self, past_of}
 use Rattle.group_laws.specs.Lists as listing
@@ -27,7 +25,6 @@ use Rattle.group_laws.specs.View as seen
 use Rattle.group_laws.specs.World.{IsKeptList}
 use Rattle.group_laws.specs.Lawful.{upto}
 use Rattle.group_laws.proofs.Acks.{upto_is_past, length_upto, values_past}
-use Rattle.group_laws.proofs.Certs.{cons_cases}
 use Rattle.group_laws.proofs.Names.{gtid_eq_same}
 use Rattle.group_laws.proofs.Views.{rank}
 use Rattle.group_laws.proofs.Worlds.{kept_past}

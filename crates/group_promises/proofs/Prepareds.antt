@@ -1,5 +1,5 @@
 -- A Prepared entry stands behind the transaction that it names.
-use Rattle.std.proofs.Common.{◌≡◌, inl, inr, ℕ, suc, ◌<◌, Option, Some, None, List, [], ◌∷◌, refl, sym, ap, subst, ◌∙◌, length, arith}
+use Rattle.std.proofs.Common.{◌≡◌, inr, ℕ, suc, ◌<◌, Option, Some, List, [], ◌∷◌, refl, sym, ap, subst, ◌∙◌, arith}
 use Rattle.gr_ids.specs.declared.names.Inc.{Inc}
 use Rattle.gr_ids.specs.declared.names.Gtid.{Gtid}
 use Rattle.gr_ids.specs.declared.names.OpenParts.{OpenParts}
@@ -20,7 +20,7 @@ use Rattle.group_laws.specs.Lists.{Mem, AllPasts}
 use Rattle.group_laws.specs.Entries as law
 use Rattle.group_laws.specs.Verdict as decided
 use Rattle.group_laws.specs.Life as lives
-use Rattle.group_laws.specs.Lawful.{upto, LawfulBody, LawfulMade}
+use Rattle.group_laws.specs.Lawful.{upto, LawfulBody}
 use Rattle.group_laws.specs.World as run
 use Rattle.group_laws.specs.World.{IsRun, MadeBy}
 use Rattle.group_laws.proofs.Acks.{upto_is_past, values_past}

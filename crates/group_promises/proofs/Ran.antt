@@ -1,18 +1,18 @@
 -- What is known of all that happened up to some time of a run, its numbers and own values being within their ranges.
-use Rattle.std.proofs.Common.{◌≡◌, inl, inr, ℕ, suc, ◌≤◌, ◌<◌, Bool, true, false, List, [], ◌∷◌, refl, sym, ap, subst, ◌∙◌, length, arith}
+use Rattle.std.proofs.Common.{◌≡◌, inl, inr, ◌≤◌, ◌<◌, true, List, length, arith}
 use Rattle.gr_ids.specs.declared.names.Inc.{Inc}
 use Rattle.gr_ids.specs.declared.names.Gtid.{Gtid}
 use Rattle.gtid_sets.specs.Sets.{has}
 use Rattle.node_rules.specs.Lists.{In}
-use Rattle.group_rules.specs.Events.{Did, Took, Setup, Entry, Cert}
-use Rattle.group_rules.specs.Life.{executed, certs, taken, cert_of}
+use Rattle.group_rules.specs.Events.{Setup, Cert}
+use Rattle.group_rules.specs.Life.{executed, taken}
 use Rattle.group_rules.specs.Rows.{known}
 use Rattle.group_rules.specs.Legal.{IsPast}
-use Rattle.group_rules.specs.World.{Past, Does, life_in}
+use Rattle.group_rules.specs.World.{Past, life_in}
 use Rattle.group_runs.specs.Runs.{IsSetup, AllDid, IsDone}
 use Rattle.group_runs.specs.Servers.{OfServers}
 use Rattle.group_order.specs.OneLog.{IsReady, LogOver}
-use Rattle.group_order.proofs.Nexts.{past_self, past_of, did_past, done_at}
+use Rattle.group_order.proofs.Nexts.{past_self, past_of, did_past}
 use Rattle.group_laws.specs.Lists as listing
 use Rattle.group_laws.specs.Lists.{Mem}
 use Rattle.group_laws.specs.Entries as law
@@ -23,14 +23,12 @@ use Rattle.group_laws.proofs.ServerRows.{certified_past}
 use Rattle.group_lives.specs.Lives.{life_of, run_of}
 use Rattle.group_lives.specs.Sound.{HasSets}
 use Rattle.group_lives.proofs.Taking.{places_agree}
-use Rattle.group_lawful.specs.Knows.{certified_of, Alike}
 use Rattle.group_legal.specs.Bases.{list_of, base_in, TakesOf, JudgesAs}
 use Rattle.group_legal.specs.Ranges.{HasSmallNumbers}
 use Rattle.group_legal.specs.OwnRanges.{ReadBack, MadeInRange}
 use Rattle.group_legal.proofs.Told.{Spelled}
 use Rattle.group_legal.proofs.Takers.{GiveTells}
 use Rattle.group_legal.proofs.Carried.{CarriedAt, in_known}
-use Rattle.group_legal.proofs.Listed as listed
 use Rattle.group_legal.proofs.Listed.{Known, Listed}
 use Rattle.group_legal.proofs.Knowing as knowing
 use Rattle.group_legal.proofs.Knowing.{LifeKnows, KnownAt}

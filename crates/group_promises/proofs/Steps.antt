@@ -1,20 +1,18 @@
 -- What is done in a step is promised.
-use Rattle.std.proofs.Common.{◌≡◌, ◌⊎◌, inl, inr, Option, Some, None, List, [], ◌∷◌, ◌++◌, refl, sym, ap, subst, ◌∙◌}
+use Rattle.std.proofs.Common.{◌≡◌, ◌⊎◌, inl, inr, Some, [], ◌∷◌, ◌++◌, refl, sym, ap, subst, ◌∙◌}
 use Rattle.gr_ids.specs.declared.names.Inc.{Inc}
 use Rattle.gr_ids.specs.declared.names.Gtid.{Gtid}
 use Rattle.gtid_sets.specs.Canonical.{IsNumber}
-use Rattle.slot_values.specs.declared.value.Value.{Value}
-use Rattle.txn_forms.specs.declared.body.Body.{Body}
 use Rattle.group_rules.specs.declared.marks.Effect.{Effect}
 use Rattle.group_rules.specs.declared.marks.Effect.TheVariants.{Positive}
-use Rattle.group_rules.specs.Events.{Did, Made, Took, Life, Setup, Entry}
+use Rattle.group_rules.specs.Events.{Made, Took, Life, Setup, Entry}
 use Rattle.group_rules.specs.Legal.{IsPast}
 use Rattle.group_rules.specs.World.{Past, Does, life_in, dids}
 use Rattle.group_order.proofs.Nexts.{past_self, past_of}
 use Rattle.group_legal.specs.Ranges.{HasSmallNumbers}
-use Rattle.group_legal.specs.OwnRanges.{InRange, MadeInRange}
+use Rattle.group_legal.specs.OwnRanges.{MadeInRange}
 use Rattle.group_legal.proofs.Points.{did_here}
-use Rattle.member_truth.specs.Growing.{Begins, IsPromised}
+use Rattle.member_truth.specs.Growing.{Begins}
 use Rattle.member_truth.specs.Ranged.{IsRangedDid, IsRanged, IsNumbered}
 use Rattle.member_truth.specs.Truth.{IsTrue}
 use Rattle.group_promises.specs.Promises.{EveryHistoryIsTrue, EveryStepIsPromised}

@@ -1,18 +1,17 @@
 -- Each history is true.
-use Rattle.std.proofs.Common.{◌≡◌, ◌⊎◌, inl, inr, Bool, true, false, Option, Some, None, List, [], ◌∷◌, refl, sym, ap, subst, ◌∙◌}
+use Rattle.std.proofs.Common.{◌≡◌, inl, inr, Bool, true, false, [], ◌∷◌, refl, subst}
 use Rattle.gr_ids.specs.Names.{inc_eq}
 use Rattle.gr_ids.specs.declared.names.Inc.{Inc}
 use Rattle.gr_ids.specs.declared.levels.MemberState.TheVariants.{Online}
 use Rattle.node_rules.proofs.Incs.{inc_is}
-use Rattle.group_rules.specs.Events.{Did, Founds, Starts, Came, Made, Took, Skips, Done, Committed, Is, Gave, Answered, Begun, Changed, Replied, Called, AsksCommit, Ends, Enters, Restores, AskFails, Hears, Ticks, Works, Calls, Operates, Life, Setup}
+use Rattle.group_rules.specs.Events.{Did, Founds, Starts, Came, Made, Took, Skips, Done, Committed, Is, Gave, Answered, Begun, Changed, Replied, Called, AsksCommit, Ends, Enters, Restores, AskFails, Hears, Ticks, Works, Calls, Operates, Setup}
 use Rattle.group_rules.specs.Legal.{IsPast}
 use Rattle.group_rules.specs.World.{Past, Does, Writes, Halts, life_in, world_after}
-use Rattle.group_runs.specs.Runs.{IsSetup, AllDid, IsDone, EveryRun}
-use Rattle.group_runs.specs.Servers.{IsFounding, FoundedAt, IsWritten, OfServers, EveryRunOfServers}
+use Rattle.group_runs.specs.Runs.{IsDone, EveryRun}
+use Rattle.group_runs.specs.Servers.{IsFounding, IsWritten, OfServers, EveryRunOfServers}
 use Rattle.group_order.specs.OneLog.{Follows, LogOver, EveryRunHasOne}
 use Rattle.group_order.proofs.Nexts.{past_self, past_of, did_past}
-use Rattle.group_legal.specs.Ranges.{HasSmallNumbers}
-use Rattle.group_legal.specs.OwnRanges.{ReadBack, MadeInRange}
+use Rattle.group_legal.specs.OwnRanges.{ReadBack}
 use Rattle.group_legal.proofs.Told.{Spelled}
 use Rattle.group_legal.proofs.Takers.{GiveTells}
 use Rattle.group_legal.proofs.Owners.{pasts_compare, founding_past, written_past}
