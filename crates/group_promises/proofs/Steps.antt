@@ -1,13 +1,13 @@
 -- What is done in a step is promised.
-use Rattle.std.proofs.Common.{◌≡◌, ◌⊎◌, inl, inr, Some, [], ◌∷◌, ◌++◌, refl, sym, ap, subst, ◌∙◌}
+use Rattle.std.proofs.Common.{◌≡◌, ◌⊎◌, inl, inr, ℕ, Some, [], ◌∷◌, ◌++◌, refl, sym, ap, subst, ◌∙◌}
 use Rattle.gr_ids.specs.declared.names.Inc.{Inc}
 use Rattle.gr_ids.specs.declared.names.Gtid.{Gtid}
 use Rattle.gtid_sets.specs.Canonical.{IsNumber}
 use Rattle.group_rules.specs.declared.marks.Effect.{Effect}
 use Rattle.group_rules.specs.declared.marks.Effect.TheVariants.{Positive}
-use Rattle.group_rules.specs.Events.{Made, Took, Life, Setup, Entry}
+use Rattle.group_rules.specs.Events.{Made, Took, Life, Setup, Entry, OfflineWrite}
 use Rattle.group_rules.specs.Legal.{IsPast}
-use Rattle.group_rules.specs.World.{Past, Does, life_in, dids}
+use Rattle.group_rules.specs.World.{Past, Does, Writes, Halts, life_in, dids}
 use Rattle.group_order.proofs.Nexts.{past_self, past_of}
 use Rattle.group_legal.specs.Ranges.{HasSmallNumbers}
 use Rattle.group_legal.specs.OwnRanges.{MadeInRange}
@@ -41,11 +41,11 @@ module _ (q : Past) (i : Inc) where
       let same : Took e ≡ d = cc in
       numbered e.effect g f (subst IsRangedDid (sym same) r.0)
 
-  small_more : (more : Life) → HasSmallNumbers q → IsRanged (more ++ life_in q i) → HasSmallNumbers (dids i more ++ q)
+  pub small_more : (more : Life) → HasSmallNumbers q → IsRanged (more ++ life_in q i) → HasSmallNumbers (dids i more ++ q)
   small_more [] s r = s
   small_more (d ∷ more) s r = record { given = given_more (d ∷ more) s r; written = (small_more more s r.1).written }
 
-  made_more : (more : Life) → MadeInRange q → IsRanged (more ++ life_in q i) → MadeInRange (dids i more ++ q)
+  pub made_more : (more : Life) → MadeInRange q → IsRanged (more ++ life_in q i) → MadeInRange (dids i more ++ q)
   made_more [] s r p j v b k = s p j v b k
   made_more (d ∷ more) s r p j v b (inr k) = made_more more s r.1 p j v b k
   made_more (d ∷ more) s r p j v b (inl z) = let same : Made v (Some b) ≡ d = cc in subst IsRangedDid (sym same) r.0
@@ -60,6 +60,29 @@ module _ (q : Past) (i : Inc) where
   began_with k (y ∷ x) (d ∷ more) e =
       let rest : more ++ life_in q i ≡ x ++ k = cc in
       elim (began_with k x more rest) [ inl b ↦ inl b | inr b ↦ inr (b.0, b.1, inr b.2) ]
+
+-- a server that stops, and a row that is written offline, make no values and give no GTIDs
+pub stopped_in_range : (q : Past) (n : ℕ) → HasSmallNumbers q → MadeInRange q → HasSmallNumbers (Halts n ∷ q) × MadeInRange (Halts n ∷ q)
+stopped_in_range q n s r = (record { given = given; written = s.written }, made)
+  where
+    given : (p : Past) (j : Inc) (e : Entry) (g : Gtid) → IsPast (Does j (Took e) ∷ p) (Halts n ∷ q) → e.effect ≡ Positive g → IsNumber g.number
+    given p j e g (inl z) f = absurd (cc z)
+    given p j e g (inr k) f = s.given p j e g k f
+
+    made : MadeInRange (Halts n ∷ q)
+    made p j v b (inl z) = absurd (cc z)
+    made p j v b (inr k) = r p j v b k
+
+pub written_in_range : (q : Past) (n : ℕ) (x : OfflineWrite) → IsNumber x.gtid.number → HasSmallNumbers q → MadeInRange q → HasSmallNumbers (Writes n x ∷ q) × MadeInRange (Writes n x ∷ q)
+written_in_range q n x small s r = (record { given = given; written = (small, s.written) }, made)
+  where
+    given : (p : Past) (j : Inc) (e : Entry) (g : Gtid) → IsPast (Does j (Took e) ∷ p) (Writes n x ∷ q) → e.effect ≡ Positive g → IsNumber g.number
+    given p j e g (inl z) f = absurd (cc z)
+    given p j e g (inr k) f = s.given p j e g k f
+
+    made : MadeInRange (Writes n x ∷ q)
+    made p j v b (inl z) = absurd (cc z)
+    made p j v b (inr k) = r p j v b k
 
 pub every_step_promised : EveryHistoryIsTrue → EveryStepIsPromised
 every_step_promised law ms t e setup moves q i more m small ranges k b r = elim (began_with q i k b.0 more b.1) [
