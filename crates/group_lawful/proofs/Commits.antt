@@ -56,7 +56,7 @@ in_all : {A : Type 0} (test : A → Bool) (xs : List A) → ((x : A) → In x xs
 in_all test [] f = refl
 in_all test (y ∷ ys) f = and_from (test y) (list_all test ys) (f y (inl refl)) (in_all test ys (λ x m. f x (inr m)))
 
-in_mem : {A : Type 0} (x : A) (xs : List A) → Mem x xs → In x xs
+pub in_mem : {A : Type 0} (x : A) (xs : List A) → Mem x xs → In x xs
 in_mem x [] m = m
 in_mem x (y ∷ ys) (inl e) = inl e
 in_mem x (y ∷ ys) (inr m) = inr (in_mem x ys m)

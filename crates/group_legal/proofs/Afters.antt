@@ -14,7 +14,7 @@ use Rattle.group_rules.specs.Legal.{IsPast, BegunAt, AcknowledgedAt, taken_of, A
 use Rattle.group_rules.specs.World.{Past, Does, life_in}
 use Rattle.group_bridge.specs.Left.{is_settled, IsAcknowledged}
 use Rattle.group_runs.specs.Runs.{AllDid, IsDone, ByRules}
-use Rattle.group_order.specs.OneLog.{IsReady, OneLogOf}
+use Rattle.group_order.specs.OneLog.{IsReady, LogOver}
 use Rattle.group_order.proofs.Nexts.{past_self, past_of, done_at}
 use Rattle.group_laws.specs.Entries as law
 use Rattle.group_laws.specs.View as seen
@@ -35,7 +35,7 @@ use Rattle.group_legal.proofs.Prefix.{past_is_upto}
 use Rattle.group_legal.proofs.Points.{point, called_past, was_begun, has_read, certified_there, online_at, at_call}
 use Rattle.group_legal.proofs.Completes.{PartOfList, first_part, seat_is, complete_there}
 
-module _ (t : Setup) (w : Past) (one : OneLogOf t w) (done : AllDid (IsDone t) w) (r : IsLawRun t one.log w) where
+module _ (t : Setup) (w : Past) (one : LogOver t w) (done : AllDid (IsDone t) w) (r : IsLawRun t one.log w) where
   abbrev given : Inc → List law.Placed
   given = base_in t one.log w
 

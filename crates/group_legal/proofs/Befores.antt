@@ -22,7 +22,7 @@ use Rattle.group_bridge.specs.Left as left
 use Rattle.group_bridge.specs.Left.{IsBegun}
 use Rattle.group_bridge.specs.Moves.{slots_in}
 use Rattle.group_runs.specs.Runs.{is_founder, AllDid, IsDone}
-use Rattle.group_order.specs.OneLog.{IsReady, OneLogOf}
+use Rattle.group_order.specs.OneLog.{IsReady, LogOver}
 use Rattle.group_order.proofs.Nexts.{did_past}
 use Rattle.group_order.proofs.Shapes.{Shape, shapes}
 use Rattle.group_laws.specs.Lists as listing
@@ -153,7 +153,7 @@ none_taken (AskFails ∷ l) h e = none_taken l h e
 
 -- ---- the law
 
-module _ (t : Setup) (w : Past) (one : OneLogOf t w) (done : AllDid (IsDone t) w) (r : IsLawRun t one.log w) where
+module _ (t : Setup) (w : Past) (one : LogOver t w) (done : AllDid (IsDone t) w) (r : IsLawRun t one.log w) where
   abbrev given : Inc → List law.Placed
   given = base_in t one.log w
 

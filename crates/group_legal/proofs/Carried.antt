@@ -15,7 +15,7 @@ use Rattle.group_rules.specs.Recovery.{given_of, cert_read, certs_given}
 use Rattle.group_rules.specs.Legal.{IsPast}
 use Rattle.group_rules.specs.World.{Past, Does, Writes, Halts, life_in, committed_of}
 use Rattle.group_runs.specs.Runs.{running_in, stored_after, stored_in, AllDid, IsDone}
-use Rattle.group_order.specs.OneLog.{GivenBy, OneLogOf}
+use Rattle.group_order.specs.OneLog.{GivenBy, LogOver}
 use Rattle.group_order.proofs.Nexts.{past_self, past_of, done_at}
 use Rattle.group_lawful.proofs.Opens.{in_filter, in_reverse}
 use Rattle.group_legal.proofs.Sorted.{in_all}
@@ -88,7 +88,7 @@ pub record CarriedAt (P : Cert → Type 0) (p : Past) : Type 0 where
   pub had : (i : Inc) (c : Cert) → In c (stored (life_in p i)).committed → P c
   pub stocks : (n : ℕ) (c : Cert) → In c (stored_in p n).committed → P c
 
-module _ (t : Setup) (w : Past) (x : OneLogOf t w) (done : AllDid (IsDone t) w) (v : Past) (v_past : IsPast v w) (P : Cert → Type 0)
+module _ (t : Setup) (w : Past) (x : LogOver t w) (done : AllDid (IsDone t) w) (v : Past) (v_past : IsPast v w) (P : Cert → Type 0)
     (took : (p : Past) (i : Inc) (e : Entry) → IsPast (Does i (Took e) ∷ p) v → (c : Cert) → In c (cert_of e) → P c)
     (given : (c : Cert) → P c → P (as_given c)) (readable : (c : Cert) → P c → Readable c) where
   abbrev CarriedBefore : Past → Type 0

@@ -211,7 +211,7 @@ ups ss = seated (filter (λ s. is_online_state s.state) ss)
 abbrev is_up_for : Inc → Seat → Bool
 is_up_for m s = inc_eq s.joiner.inc m && is_online_state s.state
 
-in_online : (ss : List Seat) (m : Inc) → In m (ups ss) → list_any (is_up_for m) ss ≡ true
+pub in_online : (ss : List Seat) (m : Inc) → In m (ups ss) → list_any (is_up_for m) ss ≡ true
 in_online [] m h = absurd h
 in_online (s ∷ ss) m h = go (is_online_state s.state) refl (in_online ss m)
   where

@@ -9,7 +9,7 @@ use Rattle.group_rules.specs.Legal.{IsPast, FailoverLaw}
 use Rattle.group_rules.specs.World.{Past, life_in}
 use Rattle.group_bridge.specs.Left.{is_settled}
 use Rattle.group_runs.specs.Runs.{AllDid, IsDone}
-use Rattle.group_order.specs.OneLog.{OneLogOf}
+use Rattle.group_order.specs.OneLog.{LogOver}
 use Rattle.group_laws.specs.Entries as law
 use Rattle.group_laws.specs.Primary as primary
 use Rattle.group_laws.specs.Life as lives
@@ -20,7 +20,7 @@ use Rattle.group_legal.specs.Bases.{list_of, base_in}
 use Rattle.group_legal.specs.LawRun.{IsLawRun}
 use Rattle.group_legal.proofs.Points.{called_past, was_begun, has_read, certified_there, sound_up, online_at, view_at, at_call}
 
-module _ (t : Setup) (w : Past) (one : OneLogOf t w) (done : AllDid (IsDone t) w) (r : IsLawRun t one.log w) where
+module _ (t : Setup) (w : Past) (one : LogOver t w) (done : AllDid (IsDone t) w) (r : IsLawRun t one.log w) where
   abbrev given : Inc → List law.Placed
   given = base_in t one.log w
 

@@ -1,5 +1,5 @@
 -- The place of a Welcome is that of its joiner's Add, which the sender had taken.
-use Rattle.std.proofs.Common.{◌≡◌, ◌⊎◌, inl, inr, ℕ, suc, ◌<◌, Bool, true, false, cond, Some, None, List, [], ◌∷◌, sym, ap, subst, ◌∙◌, length, arith}
+use Rattle.std.proofs.Common.{◌≡◌, ◌⊎◌, inl, inr, ℕ, suc, ◌≤◌, ◌<◌, Bool, true, false, cond, Some, None, List, [], ◌∷◌, sym, ap, subst, ◌∙◌, length, arith}
 use Rattle.std.proofs.lemmas.Bool.{cases_Bool}
 use Rattle.gr_ids.specs.declared.names.Inc.{Inc}
 use Rattle.slot_values.specs.declared.value.Joiner.{Joiner}
@@ -23,8 +23,9 @@ use Rattle.group_rules.specs.Legal.{IsPast, DidAt, last_slot}
 use Rattle.group_rules.specs.World.{Past, Does, life_in}
 use Rattle.group_bridge.specs.Left.{IsEntered}
 use Rattle.group_runs.specs.Runs.{is_founder, AllDid, WasGreeted, WasSentAs, IsDone}
-use Rattle.group_order.specs.OneLog.{Viewed, TakenAs, JoinedAs, Follows, AgreesAt, OneLogOf}
+use Rattle.group_order.specs.OneLog.{Viewed, TakenAs, JoinedAs, Follows, AgreesAt, IsTaken, LogOver}
 use Rattle.group_order.proofs.Nexts.{past_self, past_of, did_past, done_at, last_done, welcomes_at}
+use Rattle.group_order.proofs.Lookups.{value_within}
 use Rattle.group_order.proofs.Shapes.{Shape, shapes, takes_after, Asks}
 use Rattle.group_laws.specs.Lists as listing
 use Rattle.group_laws.specs.Entries as law
@@ -110,7 +111,7 @@ add_plain t l e s p j q a =
     ∙ ap (effect_of t l true e.value (open_parts l e.value.id.origin)) (ap (held (open_parts l e.value.id.origin)) a)
     ∙ ap (λ (y : What). effect_in (view t l) true y None) a
 
-module _ (t : Setup) (w : Past) (one : OneLogOf t w) (done : AllDid (IsDone t) w) where
+module _ (t : Setup) (w : Past) (one : LogOver t w) (done : AllDid (IsDone t) w) where
   -- the Add of an incarnation, taken with effect
   record TookAdd (i : Inc) (e : Entry) : Type 0 where
     who : Inc
@@ -201,12 +202,13 @@ module _ (t : Setup) (w : Past) (one : OneLogOf t w) (done : AllDid (IsDone t) w
     same_kept p r b c e = cc e
 
     took_slot : TookSlot
-    took_slot = by (one.no_other u.slot joined.value joined.there)
+    took_slot = by (one.reached (Does j (Enters u) ∷ q) h j u.slot (value_within one.log u.slot joined.value joined.there).0 (subst (λ l. u.slot ≤ last_slot l) (sym (did_here q j (Enters u))) (omega arith)))
       where
-        skipped : (i : Inc) (p : Past) → DidAt w i (Skips u.slot joined.value) p → ⊥
-        skipped i p k =
-            let z : KeptAt joined.place true ≡ IsSkipped =
-            joined.kept ∙ (done_at (Follows t one.log) w p i (Skips u.slot joined.value) one.follows k).skipped in cc z
+        skipped : (i : Inc) (p : Past) (v : Value) → DidAt w i (Skips u.slot v) p → ⊥
+        skipped i p v k =
+            let f = done_at (Follows t one.log) w p i (Skips u.slot v) one.follows k in
+            let same : joined.value ≡ v = some_is joined.value v (sym joined.there ∙ f.value) in
+            let z : KeptAt joined.place true ≡ IsSkipped = joined.kept ∙ ap (became (reading_of t (before_slot one.log u.slot))) same ∙ f.skipped in cc z
 
         took : (i : Inc) (p : Past) (e : Entry) → e.slot ≡ u.slot → DidAt w i (Took e) p → TookSlot
         took i p e s k = record {
@@ -230,9 +232,9 @@ module _ (t : Setup) (w : Past) (one : OneLogOf t w) (done : AllDid (IsDone t) w
             plain : e.effect ≡ Plain
             plain = add_plain t (life_in p i) e e.slot g.place joined.joiner (g.is_it ∙ ap (λ b. entry_of t (life_in p i) e.slot g.place b e.value) effect) adds
 
-        by : (i : Inc) × (p : Past) × (((e : Entry) × (e.slot ≡ u.slot) × DidAt w i (Took e) p) ⊎ DidAt w i (Skips u.slot joined.value) p) → TookSlot
-        by (i, p, inl k) = took i p k.0 k.1 k.2
-        by (i, p, inr k) = absurd (skipped i p k)
+        by : IsTaken u.slot (Does j (Enters u) ∷ q) → TookSlot
+        by (i, p, inl k) = took i p k.0 k.1 (past_of (Does j (Enters u) ∷ q) (Does i (Took k.0) ∷ p) w h k.2)
+        by (i, p, inr k) = absurd (skipped i p k.0 (past_of (Does j (Enters u) ∷ q) (Does i (Skips u.slot k.0) ∷ p) w h k.1))
 
     -- its sender had taken the Add
     welcome_place : PlaceTaken q u.slot

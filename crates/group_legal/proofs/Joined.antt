@@ -14,7 +14,7 @@ use Rattle.group_rules.specs.OneList.{listed, reading_of, value_at, before_slot,
 use Rattle.group_rules.specs.Parts.{open_parts, held}
 use Rattle.group_rules.specs.Legal.{IsPast, last_slot}
 use Rattle.group_rules.specs.World.{Past, Does, Writes, Halts, life_in}
-use Rattle.group_order.specs.OneLog.{JoinedAs, Follows, AgreesAt, OneLogOf}
+use Rattle.group_order.specs.OneLog.{JoinedAs, Follows, AgreesAt, LogOver}
 use Rattle.group_order.proofs.Nexts.{done_at}
 use Rattle.group_order.proofs.Flips.{before_next}
 use Rattle.group_order.proofs.Lookups.{value_within, listed_entry, kept_reading}
@@ -73,7 +73,7 @@ entered_at (Does j d ∷ p) i u h = go (inc_eq j i) refl h (entered_at p i u)
 
 -- ---- its Add
 
-module _ (t : Setup) (w : Past) (x : OneLogOf t w) (q : Past) (i : Inc) (u : Welcome) (k : IsPast (Does i (Enters u) ∷ q) w) where
+module _ (t : Setup) (w : Past) (x : LogOver t w) (q : Past) (i : Inc) (u : Welcome) (k : IsPast (Does i (Enters u) ∷ q) w) where
   abbrev j : JoinedAs t x.log i u
   j = done_at (Follows t x.log) w q i (Enters u) x.follows k
 

@@ -31,7 +31,7 @@ use Rattle.group_rules.specs.World.{Past, Does, Writes, Halts, life_in, nothing_
 use Rattle.group_bridge.specs.Left as left
 use Rattle.group_runs.specs.Runs.{IsSetup, is_founder, running_in, stored_after, stored_in, AllDid, IsDone}
 use Rattle.group_runs.specs.Servers.{IsWritten, OfServers}
-use Rattle.group_order.specs.OneLog.{IsReady, GivenBy, OneLogOf}
+use Rattle.group_order.specs.OneLog.{IsReady, GivenBy, LogOver}
 use Rattle.group_order.proofs.Nexts.{past_self, past_of, did_past, done_at}
 use Rattle.group_order.proofs.Shapes.{Shape, Asks, shapes, one_more}
 use Rattle.group_order.proofs.Spans.{enters_waits}
@@ -71,7 +71,7 @@ life_self : (l : Life) → left.IsPast l l
 life_self [] = refl
 life_self (d ∷ l) = inl refl
 
-past_lives : (q p : Past) (i : Inc) → IsPast q p → left.IsPast (life_in q i) (life_in p i)
+pub past_lives : (q p : Past) (i : Inc) → IsPast q p → left.IsPast (life_in q i) (life_in p i)
 past_lives q [] i h = ap (λ y. life_in y i) h
 past_lives q (Writes n y ∷ p) i (inl e) = subst (λ z. left.IsPast (life_in z i) (life_in p i)) (sym e) (life_self (life_in p i))
 past_lives q (Halts n ∷ p) i (inl e) = subst (λ z. left.IsPast (life_in z i) (life_in p i)) (sym e) (life_self (life_in p i))
@@ -219,7 +219,7 @@ descends_reverse : (cs : List Cert) → Ascends cs → Descends (reverse cs)
 descends_reverse [] h = tt
 descends_reverse (c ∷ cs) h = subst Descends (sym (reverse-append (c ∷ []) cs)) (descends_end (reverse cs) c (descends_reverse cs h.1) (λ d m. h.0 d (in_reverse d cs m)))
 
-ascends_given : (cs : List Cert) → Ascends cs → Ascends (map as_given cs)
+pub ascends_given : (cs : List Cert) → Ascends cs → Ascends (map as_given cs)
 ascends_given [] h = tt
 ascends_given (c ∷ cs) h = ((λ d m. let r = in_map cs d m in subst (λ (y : Cert). c.place < y.place) r.2 (h.0 r.0 r.1)), ascends_given cs h.1)
 
@@ -259,7 +259,7 @@ none_extra a b g p q e h = go (has b g) refl
 
 -- ---- what it was started with
 
-stored_stays : (t : Setup) (i : Inc) (l p : Life) → left.IsPast p l → Lived t i l → 0 < length p → stored p ≡ stored l
+pub stored_stays : (t : Setup) (i : Inc) (l p : Life) → left.IsPast p l → Lived t i l → 0 < length p → stored p ≡ stored l
 stored_stays t i [] p h k n = ap stored h
 stored_stays t i (Starts y ∷ l) p (inl e) k n = ap stored e
 stored_stays t i (Starts y ∷ l) p (inr h) k n = absurd (none l p k.0.0 h n)
@@ -314,7 +314,7 @@ stored_stays t i (Restores y z ∷ l) p (inr h) k n = stored_stays t i l p h k.1
 stored_stays t i (Committed u ∷ l) p (inl e) k n = ap stored e
 stored_stays t i (Committed u ∷ l) p (inr h) k n = stored_stays t i l p h k.1 n
 
-recovering_began : (l : Life) → is_recovering (state l) ≡ true → 0 < length l
+pub recovering_began : (l : Life) → is_recovering (state l) ≡ true → 0 < length l
 recovering_began [] h = absurd (false≢true h)
 recovering_began (d ∷ l) h = omega arith
 
@@ -344,7 +344,7 @@ of_group t (e ∷ m) d h = go (cons_cases (law.cert_of t (suc (length m)) e) (la
 
 -- ---- one thing more
 
-module _ (t : Setup) (setup : IsSetup t) (w : Past) (x : OneLogOf t w) (done : AllDid (IsDone t) w) (servers : OfServers t w) (spelled : Spelled) (small : HasSmallNumbers w) (v : Past) (v_past : IsPast v w)
+module _ (t : Setup) (setup : IsSetup t) (w : Past) (x : LogOver t w) (done : AllDid (IsDone t) w) (servers : OfServers t w) (spelled : Spelled) (small : HasSmallNumbers w) (v : Past) (v_past : IsPast v w)
     (judges : (p : Past) → IsPast p v → (i : Inc) → IsReady t i (life_in p i) → 0 < length (life_in p i) → TakesOf t x.log (base_in t x.log w i) (life_in p i) × JudgesAs t x.log (base_in t x.log w i) (life_in p i)) where
   abbrev list : List law.Placed
   list = list_of t x.log
@@ -365,7 +365,7 @@ module _ (t : Setup) (setup : IsSetup t) (w : Past) (x : OneLogOf t w) (done : A
 
   -- ---- sets
 
-  commit_cert : (p : Past) (i : Inc) (g : Gtid) → (h : left.IsCommitted t i (life_in p i) g) → In h.cert (certs (life_in p i))
+  pub commit_cert : (p : Past) (i : Inc) (g : Gtid) → (h : left.IsCommitted t i (life_in p i) g) → In h.cert (certs (life_in p i))
   commit_cert p i g h = subst (In h.cert) (sym h.certs) (in_pending h.begin h.cert (subst (In h.cert) (sym h.pending) (in_second h.cert h.first (h.cert ∷ h.rest) (inl refl)))).0
 
   pub numbers : HasNumbers t w
@@ -587,7 +587,7 @@ module _ (t : Setup) (setup : IsSetup t) (w : Past) (x : OneLogOf t w) (done : A
   went_did q p i (Is y z) k all h = h
   went_did q p i (Committed u) k all h = h
 
-  went : (q p : Past) (i : Inc) → IsPast q p → IsPast p v → AllDid (IsDone t) p → IsReady t i (life_in q i) → Went q p i
+  pub went : (q p : Past) (i : Inc) → IsPast q p → IsPast p v → AllDid (IsDone t) p → IsReady t i (life_in q i) → Went q p i
   went q [] i h k all r = (subst (λ y. IsReady t i (life_in y i)) h r, subst (λ y. taken (life_in q i) ≤ taken (life_in y i)) h (omega arith))
   went q (Writes n y ∷ p) i (inl e) k all r = (subst (λ z. IsReady t i (life_in z i)) e r, subst (λ z. taken (life_in q i) ≤ taken (life_in z i)) e (omega arith))
   went q (Halts n ∷ p) i (inl e) k all r = (subst (λ z. IsReady t i (life_in z i)) e r, subst (λ z. taken (life_in q i) ≤ taken (life_in z i)) e (omega arith))
@@ -631,13 +631,13 @@ module _ (t : Setup) (setup : IsSetup t) (w : Past) (x : OneLogOf t w) (done : A
     giver_has : (c : Cert) → In c (known (life_in f.sent f.giver)) → Known t list c
     giver_has c m = elim (in_known (life_in f.sent f.giver) c m) [ inl n ↦ (everywhere f.sent sent_v).had f.giver c n | inr n ↦ (everywhere f.sent sent_v).lives f.giver c n ]
 
-    up_has : (c : Cert) → In c up → Known t list c × (c.place ≤ f.add.place)
+    pub up_has : (c : Cert) → In c up → Known t list c × (c.place ≤ f.add.place)
     up_has c m = let r = in_filter (λ (c : Cert). nat_le c.place f.add.place) c (known (life_in f.sent f.giver)) m in (giver_has c r.0, leb-true c.place f.add.place r.1)
 
-    lacked_has : (c : Cert) → In c lacked → In c up × (has (executed (life_in f.asked i)) c.gtid ≡ false)
+    pub lacked_has : (c : Cert) → In c lacked → In c up × (has (executed (life_in f.asked i)) c.gtid ≡ false)
     lacked_has c m = let r = in_filter (λ (c : Cert). not (has (executed (life_in f.asked i)) c.gtid)) c up m in (r.0, not-true (has (executed (life_in f.asked i)) c.gtid) r.1)
 
-    told : cs ≡ map as_given lacked
+    pub told : cs ≡ map as_given lacked
     told = f.certs ∙ ap (λ (y : Give). certs_given y.txns) f.give ∙ given_back lacked (λ c m. (up_has c (lacked_has c m).0).0.0.1)
 
     -- one of those that the joiner then holds
@@ -645,19 +645,19 @@ module _ (t : Setup) (setup : IsSetup t) (w : Past) (x : OneLogOf t w) (done : A
     given_one c m = in_map lacked c (subst (In c) told (in_reverse c cs m))
 
     -- the joiner had nothing yet, and stands at its Add
-    joined : is_founder t i ≡ false
+    pub joined : is_founder t i ≡ false
     joined = elim (cases_Bool (is_founder t i)) [
       | inl y ↦ absurd (some_none (sym f.entered ∙ ((shapes t p all_p i).founder y).entered))
       | inr y ↦ y
     ]
 
-    asks : Asks (life_in p i) f.welcome
+    pub asks : Asks (life_in p i) f.welcome
     asks = ((shapes t p all_p i).joiner joined).ungiven f.welcome f.entered f.ungiven
 
-    place : f.add.place ≡ taken (life_in p i)
+    pub place : f.add.place ≡ taken (life_in p i)
     place = f.place ∙ sym asks.place
 
-    none : certs (life_in p i) ≡ []
+    pub none : certs (life_in p i) ≡ []
     none = (unready t i [] (life_in p i) asks.slots f.ungiven).0
 
     -- the giver knew each certified transaction up to the Add
@@ -705,7 +705,7 @@ module _ (t : Setup) (setup : IsSetup t) (w : Past) (x : OneLogOf t w) (done : A
               inl (as_given c.0, reverse_in t i [] (as_given c.0) cs (subst (In (as_given c.0)) (sym told) there), record { place = c.2.place; origin = c.2.origin; number = inr refl; gtid = c.2.gtid; txn = c.2.txn }))
         ]
 
-    lacked_ascends : Ascends lacked
+    pub lacked_ascends : Ascends lacked
     lacked_ascends = ascends_filter (λ (c : Cert). not (has (executed (life_in f.asked i)) c.gtid)) up (ascends_filter (λ (c : Cert). nat_le c.place f.add.place) (known (life_in f.sent f.giver)) (ascends_known t list f.giver (life_in f.sent f.giver) giver_knows))
 
     own_known : LifeKnows t list i (life_in p i)

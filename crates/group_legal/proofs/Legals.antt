@@ -18,15 +18,15 @@ use Rattle.group_legal.proofs.Afters.{after_law}
 use Rattle.group_legal.proofs.Failovers.{failover_law}
 use Rattle.group_legal.proofs.RowsFit.{rows_law}
 
-pub is_legal : (t : Setup) (w : Past) (one : OneLogOf t w) → AllDid (IsDone t) w → IsLawRun t one.log w → IsLegal t w
+pub is_legal : (t : Setup) (w : Past) (one : OneLogOf t w) → AllDid (IsDone t) w → IsLawRun t one.parts.log w → IsLegal t w
 is_legal t w one done r = record {
-  log = one.log;
+  log = one.parts.log;
   order = ordered t w one;
-  verdict = verdict_law t w one done r;
-  before = before_law t w one done r;
-  after = after_law t w one done r;
-  failover = failover_law t w one done r;
-  rows = rows_law t w one done r;
+  verdict = verdict_law t w one.parts done r;
+  before = before_law t w one.parts done r;
+  after = after_law t w one.parts done r;
+  failover = failover_law t w one.parts done r;
+  rows = rows_law t w one.parts done r;
 }
 
 -- each run of the group is a run of which the laws speak
@@ -35,4 +35,4 @@ every_run_legal runs writes logs spelled reads tells verdicts ms t e setup moves
     let w : Past = (world_after ms).past in
     let one : OneLogOf t w = logs ms t e setup in
     let done : AllDid (IsDone t) w = (runs ms t e setup).done in
-    is_legal t w one done (is_law_run t setup w one done (writes ms t e setup moves) spelled reads small ranges (tells t) (verdicts t))
+    is_legal t w one done (is_law_run t setup w one.parts done (writes ms t e setup moves) spelled reads small ranges (tells t) (verdicts t))

@@ -24,7 +24,7 @@ use Rattle.group_rules.specs.View.{View}
 use Rattle.group_rules.specs.Legal.{IsPast}
 use Rattle.group_rules.specs.World.{Past, Does, life_in}
 use Rattle.group_runs.specs.Runs.{IsSetup, is_founder, AllDid, IsDone}
-use Rattle.group_order.specs.OneLog.{IsReady, TakenAs, Follows, OneLogOf}
+use Rattle.group_order.specs.OneLog.{IsReady, TakenAs, Follows, LogOver}
 use Rattle.group_order.proofs.Nexts.{past_self, past_of, did_past, done_at}
 use Rattle.group_order.proofs.Shapes.{Shape, shapes, takes_after}
 use Rattle.group_laws.specs.Lists.{Mem}
@@ -158,7 +158,7 @@ Listed t k c = (d : law.Cert) × Mem d (law.certified t k) × Alike c d
 abbrev pub Known : Setup → List law.Placed → Cert → Type 0
 Known t k c = Fine c × Listed t k c
 
-module _ (t : Setup) (setup : IsSetup t) (w : Past) (x : OneLogOf t w) (done : AllDid (IsDone t) w) (spelled : Spelled) (small : HasSmallNumbers w) where
+module _ (t : Setup) (setup : IsSetup t) (w : Past) (x : LogOver t w) (done : AllDid (IsDone t) w) (spelled : Spelled) (small : HasSmallNumbers w) where
   effect_at : (p : Past) (i : Inc) (e : Entry) → TakenAs t x.log p i e → IsEffect t (view t (life_in p i)) e.value.what e.holds e.effect
   effect_at p i e g =
       subst (λ (y : Entry). IsEffect t (view t (life_in p i)) y.value.what y.holds y.effect) (sym g.is_it)

@@ -9,7 +9,7 @@ use Rattle.group_order.specs.OneLog.{TakenAs, SkippedAs, Follows, OneLogOf, Ever
 use Rattle.group_order.proofs.Nexts.{done_at}
 use Rattle.group_legal.specs.Order.{EveryRunIsOrdered}
 
-pub ordered : (t : Setup) (w : Past) (one : OneLogOf t w) → OneOrderedList t one.log w
+pub ordered : (t : Setup) (w : Past) (one : OneLogOf t w) → OneOrderedList t one.parts.log w
 ordered t w one = record {
   took = λ i e p h. ((taken i e p h).value, (taken i e p h).listed);
   skipped = λ i s v p h. ((skips i s v p h).value, (skips i s v p h).skipped);
@@ -21,13 +21,13 @@ ordered t w one = record {
   skipped_made = λ i s v p h. (skips i s v p h).made;
 }
   where
-    at_point : (i : Inc) (d : Did) (p : Past) → DidAt w i d p → Follows t one.log p i d
-    at_point i d p h = done_at (Follows t one.log) w p i d one.follows h
+    at_point : (i : Inc) (d : Did) (p : Past) → DidAt w i d p → Follows t one.parts.log p i d
+    at_point i d p h = done_at (Follows t one.parts.log) w p i d one.parts.follows h
 
-    taken : (i : Inc) (e : Entry) (p : Past) → DidAt w i (Took e) p → TakenAs t one.log p i e
+    taken : (i : Inc) (e : Entry) (p : Past) → DidAt w i (Took e) p → TakenAs t one.parts.log p i e
     taken i e p h = at_point i (Took e) p h
 
-    skips : (i : Inc) (s : ℕ) (v : Value) (p : Past) → DidAt w i (Skips s v) p → SkippedAs t one.log p i s v
+    skips : (i : Inc) (s : ℕ) (v : Value) (p : Past) → DidAt w i (Skips s v) p → SkippedAs t one.parts.log p i s v
     skips i s v p h = at_point i (Skips s v) p h
 
 pub every_run_ordered : EveryRunHasOne → EveryRunIsOrdered

@@ -1,7 +1,7 @@
 -- Each value of the list was made by its origin before, as what its place does.
-use Rattle.std.proofs.Common.{◌≡◌, ◌⊎◌, inl, inr, ℕ, suc, ◌+◌, Bool, true, false, cond, not, Option, Some, None, List, [], ◌∷◌, refl, sym, ap, subst, ◌∙◌, length, arith}
+use Rattle.std.proofs.Common.{◌≡◌, inl, inr, ℕ, suc, ◌+◌, ◌<◌, Bool, true, false, cond, not, Option, Some, None, List, [], ◌∷◌, refl, sym, ap, subst, ◌∙◌, length, arith}
 use Rattle.std.specs.Prelude.{if◌then◌else◌, nat_le}
-use Rattle.std.proofs.lemmas.Bool.{false≢true, and_parts, not-true}
+use Rattle.std.proofs.lemmas.Bool.{false≢true, and_parts, not-true, leb-false}
 use Rattle.gr_ids.specs.declared.names.Inc.{Inc}
 use Rattle.gr_ids.specs.Names.{inc_eq}
 use Rattle.slot_values.specs.declared.value.Value.{Value}
@@ -19,9 +19,9 @@ use Rattle.group_rules.specs.OneList.{reading_of, value_at, before_slot, scan_en
 use Rattle.group_rules.specs.Legal.{IsPast, WasMade}
 use Rattle.group_rules.specs.World.{Past, Does, life_in}
 use Rattle.group_runs.specs.Runs.{AllDid, IsDone}
-use Rattle.group_order.specs.OneLog.{TakenAs, Follows, OneLogOf}
+use Rattle.group_order.specs.OneLog.{TakenAs, Follows, IsTaken, LogOver}
 use Rattle.group_order.proofs.Nexts.{past_self, past_of, done_at}
-use Rattle.group_order.proofs.Flips.{value_here, value_below}
+use Rattle.group_order.proofs.Flips.{value_here, value_below, before_all}
 use Rattle.group_order.proofs.Lookups.{value_within, listed_entry}
 use Rattle.group_laws.specs.Lists as listing
 use Rattle.group_laws.specs.Entries as law
@@ -54,17 +54,14 @@ made_past p w v k m = (m.0, there w k)
     there (x ∷ w) (inl e) = subst (λ y. In (Does v.id.origin (Made v m.0)) y) e m.1
     there (x ∷ w) (inr k) = inr (there w k)
 
-all_made : (w : Past) (log : List Value) → ((s : ℕ) (v : Value) → value_at log s ≡ Some v → is_noop v.what ≡ false → WasMade w v) → AllMade w log
-all_made w [] f = tt
-all_made w (v ∷ log) f = (f (suc (length log)) v (value_here v log), all_made w log (λ s u h. f s u (let z = value_within log s u h in value_below v log s z.1 ∙ h)))
-
-made_before_slot : (w : Past) (log : List Value) (s : ℕ) → AllMade w log → AllMade w (before_slot log s)
-made_before_slot w [] s h = h
-made_before_slot w (v ∷ log) s h = go (nat_le s (suc (length log))) (made_before_slot w log s h.1)
+-- those before a slot, where each of them was
+all_made : (w : Past) (log : List Value) (n : ℕ) → ((s : ℕ) (v : Value) → s < n → value_at log s ≡ Some v → is_noop v.what ≡ false → WasMade w v) → AllMade w (before_slot log n)
+all_made w [] n f = tt
+all_made w (v ∷ log) n f = go (nat_le n (suc (length log))) refl (all_made w log n (λ s u lt h. f s u lt (let z = value_within log s u h in value_below v log s z.1 ∙ h)))
   where
-    go : (b : Bool) → AllMade w (before_slot log s) → AllMade w (elim b [ true ↦ before_slot log s | false ↦ v ∷ log ])
-    go true k = k
-    go false k = h
+    go : (b : Bool) → nat_le n (suc (length log)) ≡ b → AllMade w (before_slot log n) → AllMade w (elim b [ true ↦ before_slot log n | false ↦ v ∷ log ])
+    go true q k = k
+    go false q k = let z = leb-false n (suc (length log)) q in (f (suc (length log)) v z (value_here v log), subst (AllMade w) (before_all log n (omega (arith, z))) k)
 
 -- ---- what was made, in the run of the laws
 
@@ -164,23 +161,18 @@ module _ (t : Setup) where
 
 -- ---- what a place holds
 
-module _ (t : Setup) (w : Past) (one : OneLogOf t w) (done : AllDid (IsDone t) w) (reads : ReadBack) (ranges : MadeInRange w) where
-  log_made : AllMade w one.log
-  log_made = all_made w one.log made
-    where
-      made : (s : ℕ) (v : Value) → value_at one.log s ≡ Some v → is_noop v.what ≡ false → WasMade w v
-      made s v h n = by (one.no_other s v h)
-        where
-          by : ((i : Inc) × (p : Past) × (((e : Entry) × (e.slot ≡ s) × IsPast (Does i (Took e) ∷ p) w) ⊎ IsPast (Does i (Skips s v) ∷ p) w))
-              → WasMade w v
-          by (i, p, inl (e, slot, k)) =
-              let f = done_at (Follows t one.log) w p i (Took e) one.follows k in
-              let both : Some e.value ≡ Some v = sym f.value ∙ ap (value_at one.log) slot ∙ h in
-              let same : e.value ≡ v = cc in
-              made_past p w v (past_of (Does i (Took e) ∷ p) p w k (inr (past_self p))) (subst (WasMade p) same f.made)
-          by (i, p, inr k) =
-              let f = done_at (Follows t one.log) w p i (Skips s v) one.follows k in
-              made_past p w v (past_of (Does i (Skips s v) ∷ p) p w k (inr (past_self p))) (f.made n)
+module _ (t : Setup) (w : Past) (one : LogOver t w) (done : AllDid (IsDone t) w) (reads : ReadBack) (ranges : MadeInRange w) where
+  taken_made : (s : ℕ) (v : Value) → value_at one.log s ≡ Some v → is_noop v.what ≡ false → IsTaken s w → WasMade w v
+  taken_made s v h n (i, p, inl (e, slot, k)) =
+      let f = done_at (Follows t one.log) w p i (Took e) one.follows k in
+      let both : Some e.value ≡ Some v = sym f.value ∙ ap (value_at one.log) slot ∙ h in
+      let same : e.value ≡ v = cc in
+      made_past p w v (past_of (Does i (Took e) ∷ p) p w k (inr (past_self p))) (subst (WasMade p) same f.made)
+  taken_made s v h n (i, p, inr (u, k)) =
+      let f = done_at (Follows t one.log) w p i (Skips s u) one.follows k in
+      let both : Some u ≡ Some v = sym f.value ∙ h in
+      let same : u ≡ v = cc in
+      made_past p w v (past_of (Does i (Skips s u) ∷ p) p w k (inr (past_self p))) (subst (WasMade p) same (f.made (ap (λ y. is_noop y.what) same ∙ n)))
 
   -- what an entry holds, by the parts that its origin has open in the list before it
   entry_holds : (p : Past) (i : Inc) (e : Entry) → TakenAs t one.log p i e
@@ -206,6 +198,20 @@ module _ (t : Setup) (w : Past) (one : OneLogOf t w) (done : AllDid (IsDone t) w
 
     abbrev made : Did
     made = Made e.value took.made.0
+
+    -- each slot before it was taken
+    log_made : AllMade w log_before
+    log_made = all_made w one.log e.slot made_so
+      where
+        p_past : IsPast p w
+        p_past = past_of (Does i (Took e) ∷ p) p w k (inr (past_self p))
+
+        wider : (s : ℕ) → IsTaken s p → IsTaken s w
+        wider s (j, q, inl (x, slot, m)) = (j, q, inl (x, slot, past_of p (Does j (Took x) ∷ q) w p_past m))
+        wider s (j, q, inr (v, m)) = (j, q, inr (v, past_of p (Does j (Skips s v) ∷ q) w p_past m))
+
+        made_so : (s : ℕ) (v : Value) → s < e.slot → value_at one.log s ≡ Some v → is_noop v.what ≡ false → WasMade w v
+        made_so s v lt h n = let z = took.next in taken_made s v h n (wider s (one.reached p p_past i s (value_within one.log s v h).0 (omega (arith, lt, z))))
 
     -- when it was made, and the own values before it
     at : (q : Past) × IsPast (Does origin made ∷ q) p
@@ -241,7 +247,7 @@ module _ (t : Setup) (w : Past) (one : OneLogOf t w) (done : AllDid (IsDone t) w
     opens : open_parts (listed t log_before) origin ≡ open_own origin own_before
     opens =
         let rest = rest_past (record { value = e.value; holds = took.made.0 }) own_before (owns (life_in w origin)) past_then in
-        list_opens t w origin own_all log_before (made_before_slot w one.log e.slot log_made) own_before rest last
+        list_opens t w origin own_all log_before log_made own_before rest last
 
     does_the_same : unplaced (does_entry e.value.what e.effect e.holds) ≡ does_body took.made.0
     does_the_same =

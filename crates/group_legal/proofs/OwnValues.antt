@@ -74,7 +74,7 @@ AreOwn o (x ∷ xs) = ((x.value.id.origin ≡ o) × (x.value.id.number ≡ suc (
 
 -- ---- of a history
 
-last_is : (l : Life) → last_made l ≡ last_own (owns l)
+pub last_is : (l : Life) → last_made l ≡ last_own (owns l)
 last_is [] = refl
 last_is (Made v b ∷ l) = refl
 last_is (Founds ∷ l) = last_is l

@@ -52,13 +52,13 @@ running_at (Does j d ∷ p) n i h = go (j.server == n) refl h (running_at p n i)
 
 -- ---- the founding
 
-pasts_compare : (p q w : Past) → IsPast p w → IsPast q w → IsPast p q ⊎ IsPast q p
+pub pasts_compare : (p q w : Past) → IsPast p w → IsPast q w → IsPast p q ⊎ IsPast q p
 pasts_compare p q [] h k = inl (subst (IsPast p) (sym k) h)
 pasts_compare p q (x ∷ w) (inl e) k = inr (subst (IsPast q) (sym e) k)
 pasts_compare p q (x ∷ w) (inr h) (inl e) = inl (subst (IsPast p) (sym e) (inr h))
 pasts_compare p q (x ∷ w) (inr h) (inr k) = pasts_compare p q w h k
 
-founding_past : (p q : Past) → IsPast q p → IsFounding p → IsFounding q
+pub founding_past : (p q : Past) → IsPast q p → IsFounding p → IsFounding q
 founding_past [] q h f = subst IsFounding (sym h) tt
 founding_past (x ∷ p) q (inl e) f = subst IsFounding (sym e) f
 founding_past (Does i Founds ∷ p) q (inr h) f = founding_past p q h f

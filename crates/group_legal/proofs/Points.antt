@@ -21,7 +21,7 @@ use Rattle.group_rules.specs.World.{Past, Does, Writes as WritesOffline, Halts, 
 use Rattle.group_bridge.specs.Left as left
 use Rattle.group_bridge.specs.Left.{is_settled, IsBegun}
 use Rattle.group_runs.specs.Runs.{AllDid, IsDone}
-use Rattle.group_order.specs.OneLog.{IsReady, OneLogOf}
+use Rattle.group_order.specs.OneLog.{IsReady, LogOver}
 use Rattle.group_order.proofs.Nexts.{past_self, past_of, done_at}
 use Rattle.group_laws.specs.Lists as listing
 use Rattle.group_laws.specs.Lists.{Mem}
@@ -120,7 +120,7 @@ sound_at t i base (d ∷ l) o k n = o.0.0.1 k n
 
 -- ---- a begin
 
-module _ (t : Setup) (w : Past) (one : OneLogOf t w) (done : AllDid (IsDone t) w) (r : IsLawRun t one.log w) where
+module _ (t : Setup) (w : Past) (one : LogOver t w) (done : AllDid (IsDone t) w) (r : IsLawRun t one.log w) where
   abbrev base : Inc → List law.Placed
   base = base_in t one.log w
 

@@ -20,7 +20,7 @@ use Rattle.group_rules.specs.Legal.{IsPast, writes_in}
 use Rattle.group_rules.specs.World.{Past, Does, Writes, Halts, life_in}
 use Rattle.group_runs.specs.Runs.{IsSetup, running_in, stored_after, stored_in, AllDid, IsDone}
 use Rattle.group_runs.specs.Servers.{IsFounding, IsWritten, AllWritten, OfServers}
-use Rattle.group_order.specs.OneLog.{IsReady, OneLogOf}
+use Rattle.group_order.specs.OneLog.{IsReady, LogOver}
 use Rattle.group_order.proofs.Nexts.{past_self, past_of, done_at}
 use Rattle.group_laws.specs.Lists as listing
 use Rattle.group_laws.specs.Lists.{Mem}
@@ -162,7 +162,7 @@ stored_writes (Writes m y ∷ p) n = go (m == n) (stored_writes p n)
     go true h = ap (λ ws. ws ++ y ∷ []) h
     go false h = h
 
-founding_writes : (p : Past) → IsFounding p → (n : ℕ) → writes_in p n ≡ []
+pub founding_writes : (p : Past) → IsFounding p → (n : ℕ) → writes_in p n ≡ []
 founding_writes [] f n = refl
 founding_writes (Does i d ∷ p) f n = founding_writes p (rest d f) n
   where
@@ -174,7 +174,7 @@ founding_writes (Halts m ∷ p) f n = founding_writes p f n
 founding_writes (Writes m y ∷ p) f n = absurd f
 
 -- those of a server aren't the group's
-writes_apart : (t : Setup) (p : Past) → AllWritten (IsWritten t) p → (n : ℕ) (y : OfflineWrite) → In y (writes_in p n) → bytes_eq y.gtid.source t.limits.group ≡ false
+pub writes_apart : (t : Setup) (p : Past) → AllWritten (IsWritten t) p → (n : ℕ) (y : OfflineWrite) → In y (writes_in p n) → bytes_eq y.gtid.source t.limits.group ≡ false
 writes_apart t [] s n y h = absurd h
 writes_apart t (Does i d ∷ p) s n y h = writes_apart t p s n y h
 writes_apart t (Halts m ∷ p) s n y h = writes_apart t p s n y h
@@ -219,7 +219,7 @@ module _ (t : Setup) (w : Past) (done : AllDid (IsDone t) w) (servers : OfServer
   did_writes p i (Restores y z) k h f = f h.0.running
   did_writes p i (Committed u) k h f = f h.0.running
 
-  life_writes : (p : Past) → IsPast p w → (i : Inc) → running_in p i.server ≡ Some i → (stored (life_in p i)).writes ≡ writes_in p i.server
+  pub life_writes : (p : Past) → IsPast p w → (i : Inc) → running_in p i.server ≡ Some i → (stored (life_in p i)).writes ≡ writes_in p i.server
   life_writes [] k i h = absurd (some_none (sym h))
   life_writes (Writes m y ∷ p) k i h = go (m == i.server) refl (life_writes p (past_of (Writes m y ∷ p) p w k (inr (past_self p))) i h)
     where
@@ -252,7 +252,7 @@ module _ (t : Setup) (w : Past) (done : AllDid (IsDone t) w) (servers : OfServer
 
 -- ---- its rows
 
-module _ (t : Setup) (setup : IsSetup t) (w : Past) (x : OneLogOf t w) (done : AllDid (IsDone t) w) (servers : OfServers t w) (spelled : Spelled) (small : HasSmallNumbers w) (v : Past) (v_past : IsPast v w)
+module _ (t : Setup) (setup : IsSetup t) (w : Past) (x : LogOver t w) (done : AllDid (IsDone t) w) (servers : OfServers t w) (spelled : Spelled) (small : HasSmallNumbers w) (v : Past) (v_past : IsPast v w)
     (judges : (p : Past) → IsPast p v → (i : Inc) → IsReady t i (life_in p i) → 0 < length (life_in p i) → TakesOf t x.log (base_in t x.log w i) (life_in p i) × JudgesAs t x.log (base_in t x.log w i) (life_in p i))
     (p : Past) (k : IsPast p v) (i : Inc) (running : running_in p i.server ≡ Some i) where
   abbrev list : List law.Placed

@@ -16,7 +16,7 @@ use Rattle.group_rules.specs.Rows.{row_after}
 use Rattle.group_rules.specs.Legal.{IsPast, Table, with_change, with_changes, AllFit, table_of, NoneRefused, RowsLaw}
 use Rattle.group_rules.specs.World.{Past, life_in}
 use Rattle.group_runs.specs.Runs.{AllDid, IsDone}
-use Rattle.group_order.specs.OneLog.{OneLogOf}
+use Rattle.group_order.specs.OneLog.{LogOver}
 use Rattle.group_laws.specs.Lists as listing
 use Rattle.group_laws.specs.Entries as law
 use Rattle.group_laws.specs.Verdict as decided
@@ -99,7 +99,7 @@ refused_same (c ∷ cs) e h = ((λ x. fits_same c.txn.changes (table_of cs e) (s
 
 -- ---- the law
 
-module _ (t : Setup) (w : Past) (one : OneLogOf t w) (done : AllDid (IsDone t) w) (r : IsLawRun t one.log w) where
+module _ (t : Setup) (w : Past) (one : LogOver t w) (done : AllDid (IsDone t) w) (r : IsLawRun t one.log w) where
   abbrev given : Inc → List law.Placed
   given = base_in t one.log w
 

@@ -37,7 +37,7 @@ use Rattle.group_rules.specs.World.{Happening, Past, Does, Writes, Halts, life_i
 use Rattle.group_bridge.specs.Left as left
 use Rattle.group_runs.specs.Runs.{IsSetup, is_founder, running_in, AllDid, ByRules, IsDone}
 use Rattle.group_runs.specs.Servers.{IsWritten, OfServers}
-use Rattle.group_order.specs.OneLog.{IsReady, GivenBy, TakenAs, Follows, OneLogOf}
+use Rattle.group_order.specs.OneLog.{IsReady, GivenBy, TakenAs, Follows, LogOver}
 use Rattle.group_order.proofs.Nexts.{past_self, past_of, did_past, done_at}
 use Rattle.group_order.proofs.Shapes.{Shape, shapes}
 use Rattle.group_laws.specs.Lists as listing
@@ -168,7 +168,7 @@ scan_past t [] m h = h ∙ sym (ap (λ y. decided.scan t (law.values y)) h)
 scan_past t (u ∷ p) m (inl e) = e ∙ ap (decided.scan t) (sym (values_scan t (u ∷ p))) ∙ ap (λ y. decided.scan t (law.values y)) (sym e)
 scan_past t (u ∷ p) m (inr h) = scan_past t p m h
 
-upto_upto : {A : Type 0} (n m : ℕ) (xs : List A) → n ≤ m → m ≤ length xs → listing.IsPast (upto n xs) (upto m xs)
+pub upto_upto : {A : Type 0} (n m : ℕ) (xs : List A) → n ≤ m → m ≤ length xs → listing.IsPast (upto n xs) (upto m xs)
 upto_upto {A} n m xs h k =
     let l = length_upto m xs k in
     subst (λ y. listing.IsPast y (upto m xs)) (sym (upto_past n (upto m xs) xs (upto_is_past m xs) (omega (arith, h, l)))) (upto_is_past n (upto m xs))
@@ -184,7 +184,7 @@ VerdictsAgree t = (base : List law.Placed) (l : Life) (o : Inc) (x : Txn) → Is
 
 -- ---- a run
 
-module _ (t : Setup) (setup : IsSetup t) (w : Past) (x : OneLogOf t w) (done : AllDid (IsDone t) w) (servers : OfServers t w) (spelled : Spelled) (reads : ReadBack) (small : HasSmallNumbers w) (ranges : MadeInRange w)
+module _ (t : Setup) (setup : IsSetup t) (w : Past) (x : LogOver t w) (done : AllDid (IsDone t) w) (servers : OfServers t w) (spelled : Spelled) (reads : ReadBack) (small : HasSmallNumbers w) (ranges : MadeInRange w)
     (tells : GiveTells t) (verdicts : VerdictsAgree t) where
   abbrev list : List law.Placed
   list = list_of t x.log
@@ -237,7 +237,7 @@ module _ (t : Setup) (setup : IsSetup t) (w : Past) (x : OneLogOf t w) (done : A
     shape q h i = shapes t q (done_to q (within q h)) i
 
     -- what it has is a part of the list
-    part : (q : Past) → IsPast q p → (i : Inc) → listing.IsPast (lives.marked (life_of (base i) (life_in q i))) list
+    pub part : (q : Past) → IsPast q p → (i : Inc) → listing.IsPast (lives.marked (life_of (base i) (life_in q i))) list
     part q h i = go (life_in q i) refl
       where
         nothing : lives.marked (life_of (base i) (life_in q i)) ≡ [] → listing.IsPast (lives.marked (life_of (base i) (life_in q i))) list
@@ -267,10 +267,10 @@ module _ (t : Setup) (setup : IsSetup t) (w : Past) (x : OneLogOf t w) (done : A
         go None e = absurd (false≢true (sym (((shape q h i).joiner f).unentered e).give ∙ y))
 
     -- it ends with its Add
-    given_is : (q : Past) → IsPast q p → (i : Inc) (u : Welcome) → entered (life_in q i) ≡ Some u → base i ≡ upto u.place list
+    pub given_is : (q : Past) → IsPast q p → (i : Inc) (u : Welcome) → entered (life_in q i) ≡ Some u → base i ≡ upto u.place list
     given_is q h i u e = ap (given_to list) (stays_entered t w done q (within q h) i u e)
 
-    add_in : (q : Past) → IsPast q p → (i : Inc) (u : Welcome) → entered (life_in q i) ≡ Some u → (EndsWithAdd i (base i) × (u.place ≤ length list)) × (1 ≤ u.place)
+    pub add_in : (q : Past) → IsPast q p → (i : Inc) (u : Welcome) → entered (life_in q i) ≡ Some u → (EndsWithAdd i (base i) × (u.place ≤ length list)) × (1 ≤ u.place)
     add_in q h i u e =
         let y = entered_at q i u e in
         let m = past_of q (Does i (Enters u) ∷ y.0) w (within q h) y.1 in
@@ -391,7 +391,7 @@ module _ (t : Setup) (setup : IsSetup t) (w : Past) (x : OneLogOf t w) (done : A
       runs_now r = runs_as base t w servers p k (done_to p k) (written_past (IsWritten t) w p k servers.written) j.server j r
 
       -- all that it has executed is certified
-      certified_all : IsReady t j (life_in p j) → (g : Gtid) → has (executed (life_in p j)) g ≡ true → (d : law.Cert) × Mem d (certified_of t (base j) (life_in p j)) × (d.gtid ≡ g)
+      pub certified_all : IsReady t j (life_in p j) → (g : Gtid) → has (executed (life_in p j)) g ≡ true → (d : law.Cert) × Mem d (certified_of t (base j) (life_in p j)) × (d.gtid ≡ g)
       certified_all r g e =
           let inv = run_holds t values (run_of base p) ru in
           let y = inv.within j (ap (lives.ready t j) life_is ∙ ready_as t j (base j) (life_in p j) r) g (ap (λ l. lives.executed l g) life_is ∙ executed_agrees (base j) (life_in p j) g (sets p now j) ∙ e) in
@@ -661,6 +661,13 @@ module _ (t : Setup) (setup : IsSetup t) (w : Past) (x : OneLogOf t w) (done : A
 
   at_end : IsPast w w
   at_end = past_self w
+
+  -- each history takes the list with its verdicts, and what had happened by any time is a run
+  pub judged_at : (p : Past) → IsPast p w → (i : Inc) → IsReady t i (life_in p i) → 0 < length (life_in p i) → TakesOf t x.log (base_in t x.log w i) (life_in p i) × JudgesAs t x.log (base_in t x.log w i) (life_in p i)
+  judged_at = all.judged
+
+  pub run_at : (p : Past) → IsPast p w → IsRun t values (run_of base p)
+  run_at p k = (runs_to p k).runs
 
   moment_of : (p : Past) → IsPast p w → (i : Inc) → MomentOf t x.log (base_in t x.log w i) i (life_in p i)
   moment_of p h i = record {

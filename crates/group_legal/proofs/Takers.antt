@@ -28,7 +28,7 @@ use Rattle.group_rules.specs.Legal.{IsPast, last_slot, SameEntry}
 use Rattle.group_rules.specs.World.{Past, Does, Writes as WritesOffline, Halts, life_in}
 use Rattle.group_bridge.specs.Left.{IsEntered}
 use Rattle.group_runs.specs.Runs.{is_founder, AllDid, ByRules, IsFirst, IsDone}
-use Rattle.group_order.specs.OneLog.{IsReady, Viewed, TakenAs, Follows, GivenBy, AgreesAt, OneLogOf}
+use Rattle.group_order.specs.OneLog.{IsReady, Viewed, TakenAs, Follows, GivenBy, AgreesAt, LogOver}
 use Rattle.node_rules.proofs.Incs.{inc_is, inc_same}
 use Rattle.group_order.proofs.Nexts.{past_self, past_of, did_past, done_at}
 use Rattle.group_order.proofs.Shapes.{Shape, shapes, one_more, takes_after, not_entering, Asks}
@@ -144,7 +144,7 @@ stays_entered t (Does j d ∷ p) h q (inr k) i u e = go (inc_eq j i) refl (stays
 
 -- ---- one thing more
 
-module _ (t : Setup) (w : Past) (x : OneLogOf t w) (done : AllDid (IsDone t) w) (spelled : Spelled) (tells : GiveTells t) where
+module _ (t : Setup) (w : Past) (x : LogOver t w) (done : AllDid (IsDone t) w) (spelled : Spelled) (tells : GiveTells t) where
   abbrev list : List law.Placed
   list = list_of t x.log
 

@@ -20,7 +20,7 @@ use Rattle.group_rules.specs.OneList.{reading_of, listed_by, listed}
 use Rattle.group_rules.specs.Legal.{DidAt, SameEntry, VerdictLaw}
 use Rattle.group_rules.specs.World.{Past, Does, life_in}
 use Rattle.group_runs.specs.Runs.{AllDid, IsDone}
-use Rattle.group_order.specs.OneLog.{IsReady, TakenAs, Follows, OneLogOf}
+use Rattle.group_order.specs.OneLog.{IsReady, TakenAs, Follows, LogOver}
 use Rattle.group_order.proofs.Nexts.{done_at}
 use Rattle.group_laws.specs.Entries as law
 use Rattle.group_laws.specs.Life as lives
@@ -93,7 +93,7 @@ first_is x y xs ys e = cc e
 
 -- ---- the law
 
-module _ (t : Setup) (w : Past) (one : OneLogOf t w) (done : AllDid (IsDone t) w) (r : IsLawRun t one.log w) where
+module _ (t : Setup) (w : Past) (one : LogOver t w) (done : AllDid (IsDone t) w) (r : IsLawRun t one.log w) where
   abbrev given : Inc → List law.Placed
   given = base_in t one.log w
 

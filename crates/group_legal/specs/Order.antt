@@ -9,4 +9,4 @@ use Rattle.group_order.specs.OneLog.{OneLogOf}
 -- every run has its one log, whose list is the ordered one
 abbrev pub EveryRunIsOrdered : Type 0
 EveryRunIsOrdered = (ms : List Move) (t : Setup) → (world_after ms).setup ≡ Some t → IsSetup t
-    → (one : OneLogOf t (world_after ms).past) × OneOrderedList t one.log (world_after ms).past
+    → (one : OneLogOf t (world_after ms).past) × OneOrderedList t one.parts.log (world_after ms).past

@@ -28,7 +28,7 @@ use txn_forms::bytes_of_bodies;
 /// entry of the list, in consecutive slots, from the slot of its own Add on; no other slot is in the log; and each value that is taken or skipped, but for a
 /// Noop, was made before by its origin.
 pub fn the_list_is_one()
-    ensures ordered { (t : Setup) (w : Past) (one : OneLogOf t w) → OneOrderedList t one.log w }
+    ensures ordered { (t : Setup) (w : Past) (one : OneLogOf t w) → OneOrderedList t one.parts.log w }
     ensures every_run { EveryRunIsOrdered }
 {
     slots_are_of_one_log();

@@ -31,7 +31,7 @@ use Rattle.group_rules.specs.OneList.{reading_of, value_at, before_slot, scan_en
 use Rattle.group_bridge.specs.Left.{IsRestored, IsSent, IsGiveSent, slot_left}
 use Rattle.group_bridge.specs.Moves.{slots_in}
 use Rattle.group_runs.specs.Runs.{as_sent, IsSetup, is_founder, AllDid, IsDone, HeardIn, WasGreeted, WasTold, WasSentAs, TookThen, OfSlots, OfNodes, EveryRun}
-use Rattle.group_order.specs.OneLog.{LeftBy, GivenBy, SkippedAs, JoinedAs, IsReady, AgreesWith, Viewed, AgreesAt, Follows, NoOther, OneLogOf, EveryRunHasOne}
+use Rattle.group_order.specs.OneLog.{LeftBy, GivenBy, SkippedAs, JoinedAs, IsReady, AgreesWith, Viewed, AgreesAt, Follows, NoOther, IsTaken, OneLogOf, EveryRunHasOne}
 use Rattle.group_order.proofs.Steps.{SlotTaken, Steps}
 use Rattle.group_order.proofs.Flips.{flip, flip_length, read_flip, take_flip, before_length}
 use Rattle.group_order.proofs.Logs.{LogOf, the_log, shorter, left_all}
@@ -406,23 +406,20 @@ module _ (t : Setup) (good : IsSetup t) (one : InEveryRun OneLog) (kept : InEver
 
   -- ---- every slot was taken
 
-  abbrev TakenBy : ℕ → Past → Type 0
-  TakenBy s p = (i : Inc) × (q : Past) × (((e : Entry) × (e.slot ≡ s) × IsPast (Does i (Took e) ∷ q) p) ⊎ ((v : Value) × IsPast (Does i (Skips s v) ∷ q) p))
-
-  later_taken : (h : Happening) (s : ℕ) (p : Past) → TakenBy s p → TakenBy s (h ∷ p)
+  later_taken : (h : Happening) (s : ℕ) (p : Past) → IsTaken s p → IsTaken s (h ∷ p)
   later_taken h s p k = (k.0, k.1, elim k.2 [ inl y ↦ inl (y.0, y.1, inr y.2) | inr y ↦ inr (y.0, inr y.1) ])
 
-  wider_taken : (s : ℕ) (q p : Past) → IsPast q p → TakenBy s q → TakenBy s p
+  wider_taken : (s : ℕ) (q p : Past) → IsPast q p → IsTaken s q → IsTaken s p
   wider_taken s q p h k = (k.0, k.1, elim k.2 [ inl y ↦ inl (y.0, y.1, past_of q _ p h y.2) | inr y ↦ inr (y.0, past_of q _ p h y.1) ])
 
   -- all slots up to the last one of an incarnation
   abbrev AllTaken : Past → Type 0
-  AllTaken p = (i : Inc) (s : ℕ) → 0 < s → s ≤ last_slot (life_in p i) → TakenBy s p
+  AllTaken p = (i : Inc) (s : ℕ) → 0 < s → s ≤ last_slot (life_in p i) → IsTaken s p
 
   next_taken : (s n : ℕ) → s ≤ suc n → (s ≡ suc n) ⊎ (s ≤ n)
   next_taken s n h = elim (cases_Bool (leb s n)) [ inl q ↦ inr (leb-true s n q) | inr q ↦ (let z = leb-false s n q in inl (omega (arith, h, z))) ]
 
-  one_taken : (p : Past) (j : Inc) (d : Did) → IsPast (Does j d ∷ p) w.past → Steps t log p j d → ((q : Past) → IsPast q p → AllTaken q) → (s : ℕ) → 0 < s → s ≤ last_slot (d ∷ life_in p j) → TakenBy s (Does j d ∷ p)
+  one_taken : (p : Past) (j : Inc) (d : Did) → IsPast (Does j d ∷ p) w.past → Steps t log p j d → ((q : Past) → IsPast q p → AllTaken q) → (s : ℕ) → 0 < s → s ≤ last_slot (d ∷ life_in p j) → IsTaken s (Does j d ∷ p)
   one_taken p j (Took e) k z f s pos le = elim (next_taken s (last_slot (life_in p j)) (omega (arith, le, z.next))) [
     | inl q ↦ (j, p, inl (e, z.next ∙ sym q, inl refl))
     | inr q ↦ later_taken (Does j (Took e)) s p (f p (past_self p) j s pos q)
@@ -461,10 +458,10 @@ module _ (t : Setup) (good : IsSetup t) (one : InEveryRun OneLog) (kept : InEver
   taken_all (Halts n ∷ p) wider a q (inl e) = subst (λ y. AllTaken y) (sym e) (λ i s pos le. later_taken (Halts n) s p (taken_all p (λ r z. wider r (inr z)) a p (past_self p) i s pos le))
   taken_all (Does j d ∷ p) wider a q (inl e) = subst (λ y. AllTaken y) (sym e) (go (λ r z. taken_all p (λ r z. wider r (inr z)) a.1 r z))
     where
-      go : ((r : Past) → IsPast r p → AllTaken r) → (k : Inc) (s : ℕ) → 0 < s → s ≤ last_slot (life_in (Does j d ∷ p) k) → TakenBy s (Does j d ∷ p)
+      go : ((r : Past) → IsPast r p → AllTaken r) → (k : Inc) (s : ℕ) → 0 < s → s ≤ last_slot (life_in (Does j d ∷ p) k) → IsTaken s (Does j d ∷ p)
       go f k s pos le = by (inc_eq j k) refl le
         where
-          by : (y : Bool) → inc_eq j k ≡ y → s ≤ last_slot (elim y [ true ↦ d ∷ life_in p k | false ↦ life_in p k ]) → TakenBy s (Does j d ∷ p)
+          by : (y : Bool) → inc_eq j k ≡ y → s ≤ last_slot (elim y [ true ↦ d ∷ life_in p k | false ↦ life_in p k ]) → IsTaken s (Does j d ∷ p)
           by true m z = one_taken p j d (wider (Does j d ∷ p) (inl refl)) a.0 f s pos (subst (λ i. s ≤ last_slot (d ∷ life_in p i)) (sym (inc_is j k m)) z)
           by false m z = later_taken (Does j d) s p (f p (past_self p) k s pos z)
   taken_all (Writes n y ∷ p) wider a q (inr k) = taken_all p (λ r z. wider r (inr z)) a q k
@@ -486,14 +483,17 @@ module _ (t : Setup) (good : IsSetup t) (one : InEveryRun OneLog) (kept : InEver
           at_least : (last.0).taken.slot ≤ last_slot (life_in w.past (last.0).by) → length log ≤ last_slot (life_in w.past (last.0).by)
           at_least z = omega (arith, z, last.2)
 
-      taken : TakenBy s w.past
+      taken : IsTaken s w.past
       taken = taken_all w.past (λ q k. k) steps w.past (past_self w.past) (last.0).by s within.0 (omega (arith, within.1, up))
 
       same_value : (u : Value) → IsPast (Does taken.0 (Skips s u) ∷ taken.1) w.past → u ≡ v
       same_value u k = let z = done_at (Steps t log) w.past taken.1 taken.0 (Skips s u) steps k in let e : Some u ≡ Some v = sym z.value ∙ h in cc
 
   pub one_log : OneLogOf t w.past
-  one_log = record { log = log; follows = follows_all w.past (λ q k. k) steps; no_other = no_other; given = given_by; agrees = agree }
+  one_log = record {
+    parts = record { log = log; follows = follows_all w.past (λ q k. k) steps; reached = taken_all w.past (λ q k. k) steps; given = given_by; agrees = agree };
+    no_other = no_other;
+  }
 
 pub every_run_has_one : EveryRun → InEveryRun OneLog → InEveryRun KeptAsInLog → InEveryRun Consecutive → InEveryRun WelcomesFollow → InEveryRun MadeBefore → EveryRunHasOne
 every_run_has_one runs one kept consecutive welcomes before ms t q good =

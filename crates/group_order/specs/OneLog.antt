@@ -1,5 +1,5 @@
 -- The one log of a run: each slot that any incarnation takes or skips stands in it, with what it became there.
-use Rattle.std.specs.Prelude.{◌≡◌, ◌⊎◌, ◌<◌, ℕ, suc, Bool, true, false, Some, None, List, [], ◌∷◌, length, filter, nat_le}
+use Rattle.std.specs.Prelude.{◌≡◌, ◌⊎◌, ◌<◌, ◌≤◌, ℕ, suc, Bool, true, false, Some, None, List, [], ◌∷◌, length, filter, nat_le}
 use Rattle.gr_ids.specs.Names.{has_inc}
 use Rattle.gr_ids.specs.declared.names.Inc.{Inc}
 use Rattle.slot_values.specs.declared.value.Joiner.{Joiner}
@@ -122,12 +122,22 @@ pub record GivenBy (t : Setup) (q : Past) (i : Inc) (g : Give) (cs : List Cert) 
   pub place : add.place ≡ welcome.place
   pub ungiven : has_give (life_in q i) ≡ false
 
-pub record OneLogOf (t : Setup) (w : Past) : Type 0 where
+-- a slot that some incarnation took or skipped
+abbrev pub IsTaken : ℕ → Past → Type 0
+IsTaken s p = (i : Inc) × (q : Past) × (((e : Entry) × (e.slot ≡ s) × DidAt p i (Took e) q) ⊎ ((v : Value) × DidAt p i (Skips s v) q))
+
+-- Each incarnation takes a part of this log, and each slot up to its last one was taken or skipped by then. (The log may go on.)
+pub record LogOver (t : Setup) (w : Past) : Type 0 where
   pub log : List Value
   pub follows : AllDid (Follows t log) w
-  pub no_other : NoOther log w
+  pub reached : (q : Past) → IsPast q w → (i : Inc) (s : ℕ) → 0 < s → s ≤ last_slot (life_in q i) → IsTaken s q
   pub given : (q : Past) (i : Inc) (g : Give) (cs : List Cert) → IsPast (Does i (Restores g cs) ∷ q) w → GivenBy t q i g cs
   pub agrees : (q : Past) → IsPast q w → (i : Inc) → Viewed t i (life_in q i) → AgreesAt t log q i
+
+-- and it is no longer
+pub record OneLogOf (t : Setup) (w : Past) : Type 0 where
+  pub parts : LogOver t w
+  pub no_other : NoOther parts.log w
 
 abbrev pub EveryRunHasOne : Type 0
 EveryRunHasOne = (ms : List Move) (t : Setup) → (world_after ms).setup ≡ Some t → IsSetup t → OneLogOf t (world_after ms).past
