@@ -1,3 +1,5 @@
+ghost use Rattle.std.specs.Prelude.{◌≡◌};
+
 use crate::{DeclaredServer, Servers};
 use std::test::Fail;
 
@@ -8,7 +10,9 @@ fn default_of(number: u8) -> [u8; 16] {
     [0, 0, 0, 0, 0, 0, 0, 0, 0, 0, 0, 0, 0, 0, 0, number]
 }
 
-fn declared(number: u8, uuid: [u8; 16]) -> DeclaredServer {
+fn declared(number: u8, uuid: [u8; 16]) -> DeclaredServer
+    ensures { result.number ≡ number }
+{
     DeclaredServer {
         number,
         uuid,
@@ -21,6 +25,7 @@ fn declared(number: u8, uuid: [u8; 16]) -> DeclaredServer {
 fn servers_are_declared_once(rt: HostRuntime) -> Result<(), Fail> {
     let mut servers = Servers::new(rt.alloc());
     servers.declare(declared(3, OWN))?;
+    assert!(rt; !servers.is_declared(1));
     servers.declare(declared(1, default_of(1)))?;
     assert!(rt; servers.is_declared(3) && !servers.is_declared(2));
     assert!(rt; servers.is_taken(3, default_of(3)));
@@ -29,7 +34,10 @@ fn servers_are_declared_once(rt: HostRuntime) -> Result<(), Fail> {
     assert!(rt; !servers.is_taken(2, default_of(2)));
     assert!(rt; servers.is_group_taken(default_of(9)));
     assert!(rt; !servers.is_group_taken([7; 16]));
-    let founders = servers.founders(rt.alloc(), &[3, 2, 1])?;
+    let three: [u8; 3] = [3, 2, 1];
+    assert!(rt; three.iter().all(|number| *number < 100));
+    let founders = servers.founders(rt.alloc(), &three)?;
+    assert_eq!(rt; founders.len(), 3);
     let numbers: Vec<u8> = founders
         .iter()
         .map(|founder| founder.inc.server)
