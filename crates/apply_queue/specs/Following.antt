@@ -13,11 +13,20 @@ use Rattle.group_rules.specs.Member.{Member, push}
 use Rattle.group_rules.specs.Queue.{is_done as was_done, is_own, queue}
 use Rattle.apply_queue.specs.declared.fault.QueueFault.{QueueFault}
 use Rattle.apply_queue.specs.declared.fault.QueueFault.TheVariants.{NotQueued, AlreadyDone}
-use Rattle.apply_queue.specs.Queues.{Queued, Waiting, is_done}
+use Rattle.key_items.specs.declared.change.Change.{Change}
+use Rattle.apply_queue.specs.Queues.{Done as HasChanges, Queued, Waiting, is_done}
+
+-- a place that waits for a worker
+abbrev pub waiting_at : ℕ → Gtid → List ℕ → Queued
+waiting_at p g b = record { place = p; gtid = g; body = b; mark = Waiting }
+
+-- a place that is done, with these changes
+abbrev pub done_at : ℕ → Gtid → List ℕ → List Change → Queued
+done_at p g b cs = record { place = p; gtid = g; body = b; mark = HasChanges cs }
 
 -- a certified transaction as work that waits
 abbrev pub work_of : Cert → Queued
-work_of c = record { place = c.place; gtid = c.gtid; body = body_bytes (Writes c.txn); mark = Waiting }
+work_of c = waiting_at c.place c.gtid (body_bytes (Writes c.txn))
 
 -- a queued place as it was when it was queued
 abbrev pub as_queued : Queued → Queued

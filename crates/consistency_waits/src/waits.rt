@@ -64,6 +64,13 @@ impl Waits {
         Ok(())
     }
 
+    /// The session is held no more. Takes no memory.
+    pub fn end(&mut self, session: SessionId)
+        ensures { self.new ≡ without session self.old }
+    {
+        drop_session(&mut self.holds, session);
+    }
+
     /// The Sync is taken at this place: each hold that waits for it knows that. Takes no memory.
     pub fn sync_taken(&mut self, sync: ValueId, place: Pos)
         ensures { self.new ≡ map (placed sync place) self.old }

@@ -1,2 +1,12 @@
+pub mod Lists
+pub mod Queues
+pub mod Owns
+pub mod Orderly
+pub mod Answered
+pub mod Works
 pub mod Entered
+pub mod Begun
+pub mod Passed
+pub mod Committed
+pub mod Holds
 pub mod Asked

@@ -1,3 +1,6 @@
+pub mod Remote
 pub mod Entering
+pub mod Joining
 pub mod Standing
+pub mod Committing
 pub mod Giving

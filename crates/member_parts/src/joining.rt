@@ -14,9 +14,16 @@ ghost use Rattle.list_state.specs.Joining.{FitsPlace};
 ghost use Rattle.gtid_sets.specs.Canonical.{IsCanonical};
 ghost use Rattle.member_backlog.specs.Standing.{uncommitted_of};
 ghost use Rattle.member_parts.specs.Entering.{all_back, with_all};
+ghost use Rattle.member_parts.specs.Joining.{AreRead, IsBare, IsSpeltGiven};
+ghost use Rattle.member_parts.specs.Remote.{no_remote, with_given_work, with_works};
 ghost use Rattle.member_parts.specs.Standing.{StandsFor};
+ghost use Rattle.member_truth.specs.Truth.{IsTrueGive};
 
+use crate::own::OwnCertified;
 use crate::parts::MemberParts;
+use crate::remotes::Remotes;
+use apply_queue::Work;
+use consistency_waits::Waits;
 use donor_recovery::{AtAdd, Donor};
 use failure_events::Watch;
 use gr_ids::{Inc, Limits, Memory};
@@ -24,6 +31,7 @@ use gtid_sets::GtidSet;
 use list_state::ListState;
 use member_backlog::{Backlog, Uncommitted};
 use paxos_forms::{Given, Welcome, WelcomeMember};
+use prepare_acks::Acks;
 use std::alloc::Global;
 
 impl MemberParts {
@@ -48,6 +56,12 @@ impl MemberParts {
             watch: Watch::new(alloc, me, &[], limits)?,
             donor,
             backlog: Backlog::new(alloc),
+            remotes: Remotes::new(alloc),
+            own: OwnCertified::new(alloc),
+            acks: Acks::new(alloc),
+            required: GtidSet::new(alloc),
+            sent: GtidSet::new(alloc),
+            waits: Waits::new(alloc),
         })
     }
 
@@ -62,7 +76,7 @@ impl MemberParts {
     ) -> Result<(), Memory>
         requires number { welcome.now.number ≤ welcome.now.place + 1 }
         requires above { self.old.list.taken ≤ welcome.now.place }
-        ensures { OnOk result ((s : Setup) (l : Life) → s.limits ≡ limits → StandsFor s me l self.old
+        ensures { OnOk result ((s : Setup) (l : Life) → s.limits ≡ limits → certs l ≡ [] → StandsFor s me l self.old
             → StandsFor s me (Enters welcome.now ∷ l) self.new) }
     {
         let members = incs_told(alloc, welcome.members.as_slice())?;
@@ -72,10 +86,12 @@ impl MemberParts {
     }
 
     /// A joiner takes up what its donor gave: what stood at the place of its Add, and the certified transactions that it lacks, by ascending
-    /// place, each with its bytes and as it is to wait; `executed` is what it has executed. It has certified none before. Logarithmic in what was given, for each thing, and linear in the transactions' bytes.
+    /// place, each with its bytes, which spell a transaction, and as it is to wait; `executed` is what it has executed. It has taken no entry
+    /// and certified none before. Logarithmic in what was given, for each thing, and linear in the transactions' bytes.
     pub fn restore(
         &mut self,
         alloc: Global,
+        me: Inc,
         executed: &GtidSet,
         at: AtAdd,
         txns: &[Given],
@@ -83,12 +99,13 @@ impl MemberParts {
     ) -> Result<(), Memory>
         requires fits { FitsPlace self.old.list.taken self.old.list.limits.block at }
         requires numbers { All HasNumber txns.now }
-        ensures { OnOk result ((s : Setup) (me : Member) (l : Life) (g : AnyGive) (cs : List Cert) → IsGive g → at ≡ at_add g
-            → txns.now ≡ map given_of cs
-            → certified.now ≡ map uncommitted_of cs → executed.now ≡ executed_by l → certs l ≡ [] → StandsFor s me l self.old
-            → StandsFor s me (Restores g cs ∷ l) self.new) }
+        requires spelt { All IsSpeltGiven txns.now }
+        ensures { OnOk result ((s : Setup) (l : Life) (g : AnyGive) (cs : List Cert) → IsGive g → at ≡ at_add g → txns.now ≡ map given_of cs
+            → certified.now ≡ map uncommitted_of cs → executed.now ≡ executed_by l → IsTrueGive me l cs → AreRead cs → IsBare l
+            → StandsFor s me l self.old → StandsFor s me (Restores g cs ∷ l) self.new) }
     {
         keep_all(&mut self.donor, alloc, txns)?;
+        self.remotes = works_given(alloc, me, executed, txns)?;
         self.backlog = Backlog::restore(alloc, executed, certified)?;
         self.list.restore(alloc, at)?;
         Ok(())
@@ -128,6 +145,43 @@ fn keep_back(donor: &mut Donor, alloc: Global, txns: &[Given]) -> Result<(), Mem
         donor.certified(copied(alloc, &txns[at])?)?;
     }
     Ok(())
+}
+
+// Those of other origins that aren't committed wait for workers.
+fn works_given(
+    alloc: Global,
+    me: Inc,
+    executed: &GtidSet,
+    txns: &[Given],
+) -> Result<Remotes, Memory>
+    requires { All IsSpeltGiven txns.now }
+    ensures { IfOk result (λ remotes. remotes ≡ with_works me executed.now no_remote txns.now) }
+{
+    let mut remotes = Remotes::new(alloc);
+    for given in txns {
+        queue_given(&mut remotes, alloc, me, executed, given)?;
+    }
+    Ok(remotes)
+}
+
+fn queue_given(
+    remotes: &mut Remotes,
+    alloc: Global,
+    me: Inc,
+    executed: &GtidSet,
+    given: &Given,
+) -> Result<(), Memory>
+    requires { IsSpeltGiven given.now }
+    ensures { OnOk result (remotes.new ≡ with_given_work me executed.now remotes.old given.now) }
+{
+    if given.origin == me || executed.contains(given.gtid) {
+        return Ok(());
+    }
+    remotes.push(Work {
+        place: given.place,
+        gtid: given.gtid,
+        body: given.body.try_copy(alloc)?,
+    })
 }
 
 fn copied(alloc: Global, given: &Given) -> Result<Given, Memory>

@@ -1,12 +1,19 @@
-//! The parts of a member that each entry of the ordered list changes, together: what the list has made, the watch, the donor and
-//! the backlog.
+//! The parts of a member that each entry of the ordered list changes, together: what the list has made, the watch, the donor, what waits
+//! to be committed, the acknowledgements and the held begins.
 #![tactic(auto)]
 
+mod certified;
+mod committing;
 mod entering;
 mod giving;
+mod holding;
 mod joining;
+mod laws;
+mod own;
 mod parts;
+mod remotes;
 #[cfg(test)]
 mod tests;
 
+pub use laws::parts_stand_on;
 pub use parts::MemberParts;

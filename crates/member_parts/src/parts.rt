@@ -1,36 +1,50 @@
 // The parts together.
-ghost use Rattle.std.specs.Prelude.{◌≡◌, ◌<◌, ◌≤◌, ◌^◌, ◌∷◌, ℕ, suc, [], IfOk, map, OnOk};
+ghost use Rattle.std.specs.Prelude.{◌≡◌, ◌<◌, ◌≤◌, ◌^◌, ◌∷◌, ℕ, suc, [], IfOk, false, map, OnOk};
 ghost use Rattle.gr_ids.specs.declared.memory.Memory.{Memory};
 ghost use Rattle.gr_ids.specs.declared.names.Inc.{Inc as Member};
 ghost use Rattle.name_forms.specs.Incs.{IsInc};
-ghost use Rattle.group_rules.specs.Events.{Came, Founds, Hears, Life, Setup, Ticks, Took, Committed};
-ghost use Rattle.group_rules.specs.Life.{taken, executed as executed_by};
+ghost use Rattle.group_rules.specs.Events.{Came, Founds, Hears, Life, Setup, Ticks, Took};
+ghost use Rattle.group_rules.specs.Life.{executed as executed_by, is_error, state, taken};
 ghost use Rattle.group_rules.specs.Parts.{open_parts};
 ghost use Rattle.group_rules.specs.Taking.{entry_of};
 ghost use Rattle.paxos_forms.specs.declared.message.Message.{Message as AnyMessage};
 ghost use Rattle.list_state.specs.Holding.{IsEntered};
-ghost use Rattle.gtid_sets.specs.Sets.{with_gtid};
-ghost use Rattle.gtid_sets.specs.Canonical.{IsNumber, IsUuid};
-ghost use Rattle.gr_ids.specs.declared.names.Gtid.{Gtid as AnyGtid};
+ghost use Rattle.member_truth.specs.Truth.{IsTrueEntry};
 ghost use Rattle.member_parts.specs.Standing.{StandsFor};
 
+use crate::certified::{
+    acknowledge, effect_fits, keep_own, note_required, place_sync, queue_certified,
+    release_removed, require_certified,
+};
 use crate::entering::{await_certified, give_certified, mark_add, watch_entry};
+use crate::own::OwnCertified;
+use crate::remotes::Remotes;
+use apply_queue::Queue;
+use consistency_waits::Waits;
 use donor_recovery::Donor;
 use failure_events::Watch;
 use gr_ids::{Inc, Limits, Memory, Mode};
 use gtid_sets::GtidSet;
 use list_state::{Entered, ListState};
 use member_backlog::Backlog;
+use prepare_acks::Acks;
 use slot_values::{Joiner, Value};
 use std::alloc::Global;
 
-/// What the list has made at a member, its watch of the others, what it keeps as a donor, and what waits to be committed.
+/// What the list has made at a member, its watch of the others, what it keeps as a donor, what waits to be committed and with which
+/// changes, who acknowledges what, and the begins that are held.
 #[derive(Debug, Drop)]
 pub struct MemberParts {
     pub(crate) list: ListState,
     pub(crate) watch: Watch,
     pub(crate) donor: Donor,
     pub(crate) backlog: Backlog,
+    pub(crate) remotes: Remotes,
+    pub(crate) own: OwnCertified,
+    pub(crate) acks: Acks,
+    pub(crate) required: GtidSet,
+    pub(crate) sent: GtidSet,
+    pub(crate) waits: Waits,
 }
 
 impl MemberParts {
@@ -52,14 +66,21 @@ impl MemberParts {
             watch: Watch::new(alloc, me, &members, limits)?,
             donor: Donor::new(alloc),
             backlog: Backlog::new(alloc),
+            remotes: Remotes::new(alloc),
+            own: OwnCertified::new(alloc),
+            acks: Acks::new(alloc),
+            required: GtidSet::new(alloc),
+            sent: GtidSet::new(alloc),
+            waits: Waits::new(alloc),
         })
     }
 
-    /// One tick passes. Linear in the members; takes no memory.
+    /// One tick passes. Linear in the members and in the holds; takes no memory.
     pub fn tick(&mut self)
         ensures { (s : Setup) (me : Member) (l : Life) → StandsFor s me l self.old → StandsFor s me (Came Ticks ∷ l) self.new }
     {
         self.watch.tick();
+        self.waits.tick();
     }
 
     /// A message came from this incarnation. Linear in the members; takes no memory.
@@ -70,43 +91,39 @@ impl MemberParts {
         self.watch.heard(from);
     }
 
-    /// A transaction is committed, which the executed set has now. Linear in those that wait; takes no memory.
-    pub fn settle(&mut self, executed: &GtidSet)
-        ensures { (s : Setup) (me : Member) (l : Life) (g : AnyGtid) → executed.now ≡ with_gtid (executed_by l) g → IsUuid g.source
-            → IsNumber g.number
-            → StandsFor s me l self.old → StandsFor s me (Committed g ∷ l) self.new }
-    {
-        self.backlog.settle(executed);
-    }
-
     /// Takes the value of the next place, `executed` being what is executed here; whether an Add or a Remove has effect is known from the kept list. Places end at 2^42. After
     /// want of memory some of it may be done: the member stops. Linear in the members and in the value's bytes, besides what
     /// certification and forgetting take; at an Add linear in the kept items too.
     pub fn take(
         &mut self,
         alloc: Global,
+        me: Inc,
         executed: &GtidSet,
         value: &Value,
         has_effect: bool,
     ) -> Result<Entered, Memory>
         requires room { self.old.list.taken < 2 ^ 42 }
         requires origin { IsInc value.now.id.origin }
-        ensures entered { IfOk result (λ x. (s : Setup) (me : Member) (l : Life) (t : ℕ) → StandsFor s me l self.old
+        ensures entered { IfOk result (λ x. (s : Setup) (l : Life) (t : ℕ) → StandsFor s me l self.old
             → IsEntered (open_parts l value.now.id.origin) (entry_of s l t (suc (taken l)) has_effect value.now) x) }
-        ensures taken { OnOk result ((s : Setup) (me : Member) (l : Life) (t : ℕ) → executed.now ≡ executed_by l → StandsFor s me l self.old
+        ensures taken { OnOk result ((s : Setup) (l : Life) (t : ℕ) → executed.now ≡ executed_by l → is_error (state l) ≡ false
+            → IsTrueEntry s me l (entry_of s l t (suc (taken l)) has_effect value.now) → StandsFor s me l self.old
             → StandsFor s me (Took (entry_of s l t (suc (taken l)) has_effect value.now) ∷ l) self.new) }
     {
         let entered = self.list.take(alloc, value, has_effect)?;
-        watch_entry(&mut self.watch, &value.what, entered.effect)?;
-        give_certified(&mut self.donor, alloc, value.id.origin, &entered)?;
-        mark_add(
-            &mut self.donor,
-            alloc,
-            &self.list,
-            &value.what,
-            entered.effect,
-        )?;
-        await_certified(&mut self.backlog, executed, value.id, &entered)?;
+        let (id, what) = (value.id, &value.what);
+        watch_entry(&mut self.watch, what, entered.effect)?;
+        give_certified(&mut self.donor, alloc, id.origin, &entered)?;
+        mark_add(&mut self.donor, alloc, &self.list, what, entered.effect)?;
+        await_certified(&mut self.backlog, executed, id, &entered)?;
+        queue_certified(&mut self.remotes, alloc, me, executed, id, &entered)?;
+        keep_own(&mut self.own, alloc, me, executed, id, &entered)?;
+        effect_fits(&entered.effect);
+        require_certified(&mut self.acks, alloc, &self.list, id, &entered)?;
+        note_required(&mut self.required, alloc, me, &self.list, id, &entered)?;
+        acknowledge(&mut self.acks, id.origin, &entered.held);
+        release_removed(&mut self.acks, what, entered.effect);
+        place_sync(&mut self.waits, me, id, entered.place);
         Ok(entered)
     }
 
@@ -129,6 +146,13 @@ impl MemberParts {
         ensures { result.now ≡ self.now.backlog }
     {
         &self.backlog
+    }
+
+    /// The queue.
+    pub fn queue(&self) -> &Queue
+        ensures { result.now ≡ self.now.remotes.queue }
+    {
+        self.remotes.queue()
     }
 
     /// The donor.

@@ -41,7 +41,8 @@ fn take(rt: &impl Abort, alloc: Global, parts: &mut MemberParts, what: What) -> 
         },
         what,
     };
-    let _ = parts.take(alloc, &GtidSet::new(alloc), &value, true)?;
+    let me = joiner(1).inc;
+    let _ = parts.take(alloc, me, &GtidSet::new(alloc), &value, true)?;
     Ok(())
 }
 

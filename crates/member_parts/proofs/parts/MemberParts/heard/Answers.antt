@@ -3,7 +3,7 @@ use Rattle.std.proofs.Common.{ap, sym, ◌∙◌}
 use Rattle.gr_ids.specs.declared.names.Inc.{Inc}
 use Rattle.group_rules.specs.Watch.{heard}
 use Rattle.failure_events.specs.Watching.{Watching}
-use Rattle.member_parts.proofs.Entered.{stands_message}
+use Rattle.member_parts.proofs.Begun.{stands_message}
 use Rattle.member_parts.proofs.parts.MemberParts.heard.Goals as goal
 
 pub returns : goal.returns

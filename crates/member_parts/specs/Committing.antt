@@ -1,0 +1,39 @@
+-- A commit of a pending transaction.
+use Rattle.std.specs.Prelude.{◌≡◌, true, false, Option, Some, None}
+use Rattle.gr_ids.specs.declared.names.Gtid.{Gtid}
+use Rattle.gr_ids.specs.declared.names.Inc.{Inc}
+use Rattle.gtid_sets.specs.Canonical.{IsNumber}
+use Rattle.txn_forms.specs.declared.body.Body.{Body}
+use Rattle.txn_forms.specs.declared.body.Body.TheVariants.{Txn as Writes, Prepared}
+use Rattle.txn_forms.specs.Bodies.{body_bytes}
+use Rattle.node_rules.specs.Lists.{In}
+use Rattle.group_rules.specs.Commit.{may_commit}
+use Rattle.group_rules.specs.Events.{Cert, Life, Setup}
+use Rattle.group_rules.specs.Life.{is_error, state}
+use Rattle.group_rules.specs.Queue.{pending}
+use Rattle.apply_queue.specs.declared.work.WorkDone.{WorkDone}
+use Rattle.member_backlog.specs.declared.uncommitted.Uncommitted.{Uncommitted}
+use Rattle.member_backlog.specs.Standing.{uncommitted_of}
+
+-- it is pending, as it waits in the backlog, and may be committed now
+pub record MayGo (s : Setup) (me : Inc) (l : Life) (c : Cert) (u : Uncommitted) : Type 0 where
+  pub well : is_error (state l) ≡ false
+  pub waits : In c (pending l)
+  pub is_it : u ≡ uncommitted_of c
+  pub may : may_commit s l me c ≡ true
+
+-- what its commit writes
+abbrev pub IsWritten : Cert → Option WorkDone → Type 0
+IsWritten c None = ⊥
+IsWritten c (Some d) = (d.body ≡ body_bytes (Writes c.txn)) × (d.changes ≡ c.txn.changes)
+
+-- ---- an own value that is made
+
+-- the transaction that it acknowledges, if it is a Prepared entry
+abbrev pub prepared_in : Option Body → Option Gtid
+prepared_in (Some (Prepared g)) = Some g
+prepared_in x = None
+
+abbrev pub HasNumber : Option Gtid → Type 0
+HasNumber None = Unit {0}
+HasNumber (Some g) = IsNumber g.number
