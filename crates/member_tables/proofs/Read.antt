@@ -1,0 +1,92 @@
+-- The tables are those that the sessions read, and a Give leaves them so.
+use Rattle.std.proofs.Common.{◌≡◌, ◌⊎◌, inl, inr, ℕ, ◌≤◌, arith, Bool, true, false, not, Option, Some, None, List, [], ◌∷◌, ◌++◌, refl, sym, ap, ◌∙◌, subst, reverse, filter}
+use Rattle.std.proofs.lemmas.Bool.{true≢false}
+use Rattle.gr_ids.specs.declared.names.Gtid.{Gtid}
+use Rattle.gr_ids.specs.declared.names.Inc.{Inc}
+use Rattle.gr_ids.specs.Names.{gtid_eq}
+use Rattle.node_rules.specs.Lists.{In}
+use Rattle.paxos_forms.specs.declared.recovery.Give.{Give}
+use Rattle.group_rules.specs.Events.{Cert, Life, Restores, Setup}
+use Rattle.gtid_sets.specs.Sets.{has}
+use Rattle.group_rules.specs.Life.{certs, executed, stored}
+use Rattle.group_rules.specs.Sessions.{begun_set}
+use Rattle.group_rules.specs.Member.{Member}
+use Rattle.group_rules.specs.Queue.{is_done, queue}
+use Rattle.group_rules.specs.Rows.{all_in, known}
+use Rattle.row_locks.specs.declared.done.DonePlace.{DonePlace}
+use Rattle.row_locks.specs.Locking.{place_at}
+use Rattle.row_store.proofs.Followed.{now_told, restores as rows_restore, set_told}
+use Rattle.row_store.proofs.Kept.{keeps_restoring}
+use Rattle.row_store.proofs.Known.{all_first, in_all, in_reverse}
+use Rattle.row_store.proofs.Versions.{gtid_itself, same_gtid}
+use Rattle.local_sessions.specs.Following.{TablesOf, done_places}
+use Rattle.local_sessions.proofs.Queued.{named, none}
+use Rattle.member_truth.specs.Truth.{AreDistinct, IsTrueGive}
+use Rattle.member_tables.specs.declared.tables.MemberTables.{MemberTables}
+use Rattle.member_tables.specs.Standing.{HasGtids, Keeps, Stands, TablesFor}
+use Rattle.member_tables.proofs.Kept.{stands_with}
+
+pub reads : (a : Member) (x : MemberTables) → TablesFor a x → TablesOf x.tables a
+reads a x f = record {
+  me = f.tables.is_me;
+  set = f.tables.set;
+  own_state = f.tables.own_state;
+  mode = f.tables.mode;
+  primary = f.tables.primary;
+  rows_now = λ i. now_told a.life x.tables.store i f.tables.rows;
+  rows_seen = λ t i h. set_told a.life x.tables.store i (begun_set a.life t) f.tables.rows (f.tables.reads t h);
+  places = λ i. ap (λ (ds : List DonePlace). place_at ds i) f.tables.places ∙ named a.life i (queue a.life a.me.inc);
+  locks = f.locks;
+}
+
+-- ---- GTIDs
+
+turned : (c d : Gtid) → gtid_eq c d ≡ true → gtid_eq d c ≡ true
+turned c d e = ap (λ (x : Gtid). gtid_eq d x) (same_gtid c d e) ∙ gtid_itself d
+
+one_of : (cs : List Cert) (c d : Cert) → AreDistinct cs → In c cs → In d cs → gtid_eq c.gtid d.gtid ≡ true → c ≡ d
+one_of [] c d k m n e = absurd m
+one_of (x ∷ xs) c d k (inl p) (inl q) e = sym p ∙ q
+one_of (x ∷ xs) c d k (inl p) (inr n) e = absurd (true≢false (sym (turned c.gtid d.gtid e) ∙ (ap (λ (y : Cert). gtid_eq d.gtid y.gtid) (sym p) ∙ k.0 d n)))
+one_of (x ∷ xs) c d k (inr m) (inl q) e = absurd (true≢false (sym e ∙ (ap (λ (y : Cert). gtid_eq c.gtid y.gtid) (sym q) ∙ k.0 c m)))
+one_of (x ∷ xs) c d k (inr m) (inr n) e = one_of xs c d k.1 m n e
+
+-- those that it knows with those given
+given_gtids : (me : Inc) (l : Life) (g : Give) (cs : List Cert) → IsTrueGive me l cs → HasGtids l → HasGtids (Restores g cs ∷ l)
+given_gtids me l g cs k h c d m n e = go (apart c m) (apart d n)
+  where
+    -- it was known, or is given
+    apart : (y : Cert) → In y (known (Restores g cs ∷ l)) → In y (known l) ⊎ In y cs
+    apart y z = elim (in_all (all_in [] (stored l).committed) (reverse cs) y z) [
+      | inl p ↦ inl (all_first (all_in [] (stored l).committed) (certs l) y p)
+      | inr p ↦ inr (in_reverse y cs p)
+    ]
+
+    go : In c (known l) ⊎ In c cs → In d (known l) ⊎ In d cs → c ≡ d
+    go (inl p) (inl q) = h c d p q e
+    go (inl p) (inr q) = absurd (true≢false (sym e ∙ (k.given d q).unknown c p))
+    go (inr p) (inl q) = absurd (true≢false (sym (turned c.gtid d.gtid e) ∙ (k.given c p).unknown d q))
+    go (inr p) (inr q) = one_of cs c d k.distinct p q e
+
+-- ---- a Give
+
+pub restored : (a : Member) (x : MemberTables) (g : Give) (cs : List Cert) → IsTrueGive a.me.inc a.life cs → ((p : ℕ) → is_done a.life p ≡ false) → TablesFor a x → Stands a.setup a.me.inc (Restores g cs ∷ a.life) x
+restored a x g cs k n f = stands_with a.setup a.me.inc a.life x x.tables (Restores g cs) refl (omega arith) refl tables f
+  where
+    unexecuted : (c : Cert) → In c cs → has (executed a.life) c.gtid ≡ false
+    unexecuted c m = (k.given c m).unexecuted
+
+    tables : Keeps a.setup a.me.inc (Restores g cs ∷ a.life) x.tables
+    tables = record {
+      is_me = f.tables.is_me;
+      set = f.tables.set;
+      own_state = f.tables.own_state;
+      mode = f.tables.mode;
+      primary = f.tables.primary;
+      rows = rows_restore a.life g cs x.tables.store f.tables.rows k.first unexecuted;
+      places = f.tables.places ∙ (none a.life (queue a.life a.me.inc) n ∙ sym (none (Restores g cs ∷ a.life) (queue (Restores g cs ∷ a.life) a.me.inc) n));
+      reads = f.tables.reads;
+      canonical = f.tables.canonical;
+      kept = keeps_restoring a.life g cs unexecuted;
+      gtids = given_gtids a.me.inc a.life g cs k f.tables.gtids;
+    }

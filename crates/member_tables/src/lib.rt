@@ -1,0 +1,8 @@
+//! The tables of a member: what its sessions read and write, together with the sessions.
+#![tactic(auto)]
+
+mod laws;
+mod tables;
+
+pub use laws::tables_stand_for_their_member;
+pub use tables::MemberTables;
