@@ -1,2 +1,5 @@
 pub mod Kept
+pub mod Gtids
 pub mod Read
+pub mod Queues
+pub mod Listed

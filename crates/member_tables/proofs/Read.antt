@@ -24,6 +24,7 @@ use Rattle.local_sessions.proofs.Queued.{named, none}
 use Rattle.member_truth.specs.Truth.{AreDistinct, IsTrueGive}
 use Rattle.member_tables.specs.declared.tables.MemberTables.{MemberTables}
 use Rattle.member_tables.specs.Standing.{HasGtids, Keeps, Stands, TablesFor}
+use Rattle.member_tables.proofs.Gtids.{more_gtids}
 use Rattle.member_tables.proofs.Kept.{stands_with}
 
 pub reads : (a : Member) (x : MemberTables) → TablesFor a x → TablesOf x.tables a
@@ -39,35 +40,6 @@ reads a x f = record {
   locks = f.locks;
 }
 
--- ---- GTIDs
-
-turned : (c d : Gtid) → gtid_eq c d ≡ true → gtid_eq d c ≡ true
-turned c d e = ap (λ (x : Gtid). gtid_eq d x) (same_gtid c d e) ∙ gtid_itself d
-
-one_of : (cs : List Cert) (c d : Cert) → AreDistinct cs → In c cs → In d cs → gtid_eq c.gtid d.gtid ≡ true → c ≡ d
-one_of [] c d k m n e = absurd m
-one_of (x ∷ xs) c d k (inl p) (inl q) e = sym p ∙ q
-one_of (x ∷ xs) c d k (inl p) (inr n) e = absurd (true≢false (sym (turned c.gtid d.gtid e) ∙ (ap (λ (y : Cert). gtid_eq d.gtid y.gtid) (sym p) ∙ k.0 d n)))
-one_of (x ∷ xs) c d k (inr m) (inl q) e = absurd (true≢false (sym e ∙ (ap (λ (y : Cert). gtid_eq c.gtid y.gtid) (sym q) ∙ k.0 c m)))
-one_of (x ∷ xs) c d k (inr m) (inr n) e = one_of xs c d k.1 m n e
-
--- those that it knows with those given
-given_gtids : (me : Inc) (l : Life) (g : Give) (cs : List Cert) → IsTrueGive me l cs → HasGtids l → HasGtids (Restores g cs ∷ l)
-given_gtids me l g cs k h c d m n e = go (apart c m) (apart d n)
-  where
-    -- it was known, or is given
-    apart : (y : Cert) → In y (known (Restores g cs ∷ l)) → In y (known l) ⊎ In y cs
-    apart y z = elim (in_all (all_in [] (stored l).committed) (reverse cs) y z) [
-      | inl p ↦ inl (all_first (all_in [] (stored l).committed) (certs l) y p)
-      | inr p ↦ inr (in_reverse y cs p)
-    ]
-
-    go : In c (known l) ⊎ In c cs → In d (known l) ⊎ In d cs → c ≡ d
-    go (inl p) (inl q) = h c d p q e
-    go (inl p) (inr q) = absurd (true≢false (sym e ∙ (k.given d q).unknown c p))
-    go (inr p) (inl q) = absurd (true≢false (sym (turned c.gtid d.gtid e) ∙ (k.given c p).unknown d q))
-    go (inr p) (inr q) = one_of cs c d k.distinct p q e
-
 -- ---- a Give
 
 pub restored : (a : Member) (x : MemberTables) (g : Give) (cs : List Cert) → IsTrueGive a.me.inc a.life cs → ((p : ℕ) → is_done a.life p ≡ false) → TablesFor a x → Stands a.setup a.me.inc (Restores g cs ∷ a.life) x
@@ -75,6 +47,12 @@ restored a x g cs k n f = stands_with a.setup a.me.inc a.life x x.tables (Restor
   where
     unexecuted : (c : Cert) → In c cs → has (executed a.life) c.gtid ≡ false
     unexecuted c m = (k.given c m).unexecuted
+
+    apart : (y : Cert) → In y (known (Restores g cs ∷ a.life)) → In y (known a.life) ⊎ In y cs
+    apart y z = elim (in_all (all_in [] (stored a.life).committed) (reverse cs) y z) [
+      | inl p ↦ inl (all_first (all_in [] (stored a.life).committed) (certs a.life) y p)
+      | inr p ↦ inr (in_reverse y cs p)
+    ]
 
     tables : Keeps a.setup a.me.inc (Restores g cs ∷ a.life) x.tables
     tables = record {
@@ -88,5 +66,5 @@ restored a x g cs k n f = stands_with a.setup a.me.inc a.life x x.tables (Restor
       reads = f.tables.reads;
       canonical = f.tables.canonical;
       kept = keeps_restoring a.life g cs unexecuted;
-      gtids = given_gtids a.me.inc a.life g cs k f.tables.gtids;
+      gtids = more_gtids a.life (Restores g cs ∷ a.life) cs apart k.distinct (λ c m. (k.given c m).unknown) f.tables.gtids;
     }

@@ -1,6 +1,7 @@
 //! The tables of a member: what its sessions read and write, together with the sessions.
 #![tactic(auto)]
 
+mod entries;
 mod laws;
 mod tables;
 
