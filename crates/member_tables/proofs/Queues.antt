@@ -6,13 +6,15 @@ use Rattle.std.proofs.lemmas.List.Elements.{filter-append}
 use Rattle.gr_ids.specs.declared.names.Gtid.{Gtid}
 use Rattle.gr_ids.specs.declared.names.Inc.{Inc}
 use Rattle.gr_ids.specs.declared.names.ValueId.{ValueId}
-use Rattle.gtid_sets.specs.Sets.{Gtids, has}
+use Rattle.gr_ids.specs.Names.{gtid_eq}
+use Rattle.gtid_sets.specs.Sets.{Gtids, has, with_gtid}
+use Rattle.row_store.proofs.Known.{in_reverse}
 use Rattle.node_rules.specs.Lists.{In}
 use Rattle.txn_forms.specs.declared.body.Body.{Body}
 use Rattle.txn_forms.specs.declared.body.Body.TheVariants.{Txn as Writes, Prepared, Sync, Executed, Online as Arrives, Mode as Switches, Primary as Appoints, Part as PartOf}
 use Rattle.group_rules.specs.declared.marks.Effect.{Effect}
 use Rattle.group_rules.specs.declared.marks.Effect.TheVariants.{Plain, Void, Unread, Positive, Conflict}
-use Rattle.group_rules.specs.Events.{Cert, Entry, Life, Took}
+use Rattle.group_rules.specs.Events.{Cert, Committed, Entry, Life, Took}
 use Rattle.group_rules.specs.Life.{cert_by, cert_of, certs, executed, is_error, state}
 use Rattle.group_rules.specs.Queue.{is_done, is_own, pending, queue}
 use Rattle.row_locks.specs.declared.done.DonePlace.{DonePlace}
@@ -86,3 +88,30 @@ takes l me e d = passed l (Took e) (queue (Took e ∷ l) me) refl ∙ by (is_err
     by : (b : Bool) → is_error (state l) ≡ b → done_places l (queue (Took e ∷ l) me) ≡ done_places l (queue l me)
     by true h = ap (done_places l) (no_queue (Took e ∷ l) me h ∙ sym (no_queue l me h))
     by false h = alive h (certified e.place e.value.id e.effect e.holds)
+
+-- ---- a commit
+
+left : (me : Inc) (s t : Gtids) (g : Gtid) (p : ℕ) → ((m : Gtid) → has t m ≡ (gtid_eq g m || has s m)) → (cs : List Cert) → ((d : Cert) → In d cs → gtid_eq g d.gtid ≡ (d.place == p))
+    → waits_in me t cs ≡ filter (λ d. not (d.place == p)) (waits_in me s cs)
+left me s t g p h [] w = refl
+left me s t g p h (c ∷ cs) w = go (gtid_eq g c.gtid) refl (has s c.gtid) refl (is_own me c) refl (sym (w c (inl refl))) (left me s t g p h cs (λ d m. w d (inr m)))
+  where
+    go : (a : Bool) → gtid_eq g c.gtid ≡ a → (b : Bool) → has s c.gtid ≡ b → (o : Bool) → is_own me c ≡ o → (c.place == p) ≡ gtid_eq g c.gtid
+        → waits_in me t cs ≡ filter (λ d. not (d.place == p)) (waits_in me s cs) → waits_in me t (c ∷ cs) ≡ filter (λ d. not (d.place == p)) (waits_in me s (c ∷ cs))
+    go true ea true eb o eo q r = let k : has t c.gtid ≡ true = h c.gtid ∙ rw ea refl in rw (k, eb) r
+    go true ea false eb true eo q r = let k : has t c.gtid ≡ true = h c.gtid ∙ rw ea refl in rw (k, eb, eo) r
+    go true ea false eb false eo q r = let k : has t c.gtid ≡ true = h c.gtid ∙ rw ea refl in rw (k, eb, eo, q ∙ ea) r
+    go false ea true eb o eo q r = let k : has t c.gtid ≡ true = h c.gtid ∙ rw (ea, eb) refl in rw (k, eb) r
+    go false ea false eb true eo q r = let k : has t c.gtid ≡ false = h c.gtid ∙ rw (ea, eb) refl in rw (k, eb, eo) r
+    go false ea false eb false eo q r = let k : has t c.gtid ≡ false = h c.gtid ∙ rw (ea, eb) refl in rw (k, eb, eo, q ∙ ea) (ap (λ (ds : List Cert). c ∷ ds) r)
+
+-- the transaction of this GTID, which alone has its place
+pub commits : (l : Life) (me : Inc) (g : Gtid) (p : ℕ) → ((m : Gtid) → has (with_gtid (executed l) g) m ≡ (gtid_eq g m || has (executed l) m)) → ((d : Cert) → In d (certs l) → gtid_eq g d.gtid ≡ (d.place == p))
+    → queue (Committed g ∷ l) me ≡ filter (λ d. not (d.place == p)) (queue l me)
+commits l me g p h w = go (is_error (state l)) refl
+  where
+    go : (b : Bool) → is_error (state l) ≡ b → queue (Committed g ∷ l) me ≡ filter (λ d. not (d.place == p)) (queue l me)
+    go true e = no_queue (Committed g ∷ l) me e ∙ ap (filter (λ (d : Cert). not (d.place == p))) (sym (no_queue l me e))
+    go false e =
+        queue_is (Committed g ∷ l) me e
+        ∙ (left me (executed l) (with_gtid (executed l) g) g p h (reverse (certs l)) (λ d m. w d (in_reverse d (certs l) m)) ∙ ap (filter (λ (d : Cert). not (d.place == p))) (sym (queue_is l me e)))

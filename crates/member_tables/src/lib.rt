@@ -1,8 +1,10 @@
 //! The tables of a member: what its sessions read and write, together with the sessions.
 #![tactic(auto)]
 
+mod commits;
 mod entries;
 mod laws;
+mod places;
 mod tables;
 
 pub use laws::tables_stand_for_their_member;
