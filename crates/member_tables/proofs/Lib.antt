@@ -6,3 +6,7 @@ pub mod Listed
 pub mod Decided
 pub mod Settled
 pub mod Answering
+pub mod Freed
+pub mod Results
+pub mod Beginning
+pub mod Fallen

@@ -1,9 +1,11 @@
 //! The tables of a member: what its sessions read and write, together with the sessions.
 #![tactic(auto)]
 
+mod begins;
 mod commits;
 mod entries;
 mod laws;
+mod leaving;
 mod places;
 mod tables;
 
