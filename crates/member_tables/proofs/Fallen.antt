@@ -49,16 +49,13 @@ pub falls : (a : Member) (x : MemberTables) (ts : List TakenOwn) (c : Cause) (ou
     → ((j : Item) → session_at k.keys j ≡ without_told out (session_at x.tables.locks.keys j)) → k.places ≡ [] → TakenOf ts a.life → TablesFor a x
     → TablesFor (fall c a) (record { tables = record x.tables { locks = k; state = Error }; sessions = xs })
 falls a x ts c out xs k up eo es ek ep t f = record {
-  tables = subst (λ (m : Member). Keeps m.setup m.me.inc m.life at) (sym (told a x ts c up t f)) (keeps_told (answers_left ts x.sessions) (push (Is Error c) a) at tables);
-  locks = freed x.sessions x.tables.locks k ts a c up f.sessions f.locks t (λ j. ek j ∙ ap (λ as. without_told as (session_at x.tables.locks.keys j)) eo);
+  tables = subst (λ (m : Member). Keeps m.setup m.me.inc m.life (record x.tables { locks = k; state = Error })) (sym (told a x ts c up t f)) (keeps_told (answers_left ts x.sessions) (push (Is Error c) a) (record x.tables { locks = k; state = Error }) tables);
+  locks = freed x.sessions x.tables.locks k ts a c up f.sessions f.locks t (λ j. ek j ∙ ap (λ os. without_told os (session_at x.tables.locks.keys j)) eo);
   sessions = subst (λ (ys : List Session). StandFor ys (fall c a).life) (sym es) (remaining x.sessions x.tables.locks ts a c up f.sessions f.locks t);
   left = still_active x.tables.locks a c f.locks;
   once = subst (λ (m : Member). AsksOnce m.life) (sym (told a x ts c up t f)) (once_told (answers_left ts x.sessions) (push (Is Error c) a) (alike a.life (Is Error c ∷ a.life) (λ u. refl) refl f.once));
 }
   where
-    abbrev at : Tables
-    at = record x.tables { locks = k; state = Error }
-
     tables : Keeps a.setup a.me.inc (Is Error c ∷ a.life) (record x.tables { locks = k; state = Error })
     tables = record {
       is_me = f.tables.is_me;

@@ -10,3 +10,5 @@ pub mod Freed
 pub mod Results
 pub mod Beginning
 pub mod Fallen
+pub mod Called
+pub mod Asked

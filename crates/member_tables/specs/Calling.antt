@@ -7,7 +7,7 @@ use Rattle.local_sessions.specs.declared.commit_step.CommitStep.{CommitStep}
 use Rattle.local_sessions.specs.declared.commit_step.CommitStep.TheVariants.{Ready, Said}
 use Rattle.local_sessions.specs.Acting.{sent_as}
 use Rattle.local_sessions.specs.declared.session.Stage.TheVariants.{Asking}
-use Rattle.local_sessions.specs.Standing.{at_stage, changed_at}
+use Rattle.local_sessions.specs.Standing.{at_stage, changed_at, is_asked, session_in}
 use Rattle.member_tables.specs.declared.tables.MemberTables.{MemberTables}
 use Rattle.member_tables.specs.Standing.{TablesFor}
 
@@ -19,3 +19,8 @@ OnceSent s b a x = TablesFor (call s Commit a) (record x { sessions = changed_at
 abbrev pub CommitsTo : CommitStep → ℕ → Member → MemberTables → Type 0
 CommitsTo (Said x) s a t = TablesFor (call s Commit a) t
 CommitsTo (Ready b) s a t = OnceSent s b a t
+
+-- a commit that hands out a body leaves its session waiting for the value
+abbrev pub AsksIfReady : CommitStep → ℕ → MemberTables → Type 0
+AsksIfReady (Said x) s t = Unit {0}
+AsksIfReady (Ready b) s t = is_asked (session_in t.sessions s) ≡ true

@@ -2,6 +2,7 @@
 #![tactic(auto)]
 
 mod begins;
+mod calls;
 mod commits;
 mod entries;
 mod laws;
