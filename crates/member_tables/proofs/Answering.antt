@@ -1,12 +1,11 @@
 -- Who is answered where a value is decided: the one that the rules of the group answer.
-use Rattle.std.proofs.Common.{◌≡◌, ℕ, Bool, true, false, Option, Some, None, List, [], ◌∷◌, refl, sym, ap, ◌∙◌, subst}
+use Rattle.std.proofs.Common.{◌≡◌, ℕ, Bool, true, false, Option, Some, None, List, ◌∷◌, refl, sym, ap, ◌∙◌, subst}
 use Rattle.std.specs.Prelude.{option_to_list}
 use Rattle.std.specs.Option.{option_map}
 use Rattle.gr_ids.specs.declared.names.Gtid.{Gtid}
 use Rattle.gr_ids.specs.declared.names.Inc.{Inc}
 use Rattle.gr_ids.specs.declared.names.ValueId.{ValueId}
 use Rattle.key_items.specs.declared.change.Change.{Change}
-use Rattle.group_rules.specs.declared.answers.Answer.{Answer}
 use Rattle.group_rules.specs.declared.answers.Answer.TheVariants.{Committed as CommittedAs, Conflict as ConflictWith}
 use Rattle.group_rules.specs.Events.{Cert, Committed}
 use Rattle.group_rules.specs.Member.{Member, push}

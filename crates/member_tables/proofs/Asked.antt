@@ -1,5 +1,5 @@
 -- A commit that hands out a body has asked it.
-use Rattle.std.proofs.Common.{◌≡◌, ℕ, Bool, true, false, Option, Some, None, List, [], ◌∷◌, length, refl, sym, ap, ◌∙◌, subst, Ok, Err}
+use Rattle.std.proofs.Common.{◌≡◌, ℕ, Bool, true, false, Option, Some, None, List, [], ◌∷◌, length, refl, sym, ap, ◌∙◌, Ok, Err}
 use Rattle.std.specs.Prelude.{IfOk, OnOk, Result, nat_lt}
 use Rattle.std.specs.Option.{option_map}
 use Rattle.gr_ids.specs.declared.memory.Memory.{Memory}

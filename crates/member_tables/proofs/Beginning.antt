@@ -1,5 +1,5 @@
 -- A begin that was held is done, or ends.
-use Rattle.std.proofs.Common.{◌≡◌, ◌==◌, ℕ, ◌≤◌, arith, Bool, true, false, Option, List, [], ◌∷◌, refl, sym, ap, ◌∙◌, subst}
+use Rattle.std.proofs.Common.{◌≡◌, ◌==◌, ℕ, arith, Bool, true, false, Option, List, ◌∷◌, refl, sym, ap, ◌∙◌, subst}
 use Rattle.gr_ids.specs.declared.names.Inc.{Inc}
 use Rattle.gtid_sets.specs.Sets.{Gtids}
 use Rattle.group_rules.specs.declared.answers.Answer.{Answer}
@@ -19,7 +19,7 @@ use Rattle.local_sessions.proofs.KeyHolders.{begun as locks_begun, timed_out as 
 use Rattle.local_sessions.proofs.Passing.{begun as sessions_begun, ended as sessions_ended}
 use Rattle.local_sessions.proofs.StillActive.{begun as left_begun, ended as left_ended}
 use Rattle.member_tables.specs.declared.tables.MemberTables.{MemberTables}
-use Rattle.member_tables.specs.Standing.{Keeps, Stands, TablesFor}
+use Rattle.member_tables.specs.Standing.{Stands, TablesFor}
 use Rattle.member_tables.proofs.Kept.{keeps_on, stands_on}
 
 pub holding : (a : Member) (x : MemberTables) (t : ℕ) → TablesFor a x → is_held (session_in x.sessions t) ≡ is_holding (phase a.life t)

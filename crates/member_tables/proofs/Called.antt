@@ -1,5 +1,5 @@
 -- A call, its answer, and what stands then.
-use Rattle.std.proofs.Common.{◌≡◌, ◌==◌, ℕ, ◌≤◌, arith, Bool, true, false, Option, Some, None, List, [], ◌∷◌, length, refl, sym, ap, ◌∙◌, subst, Ok, Err}
+use Rattle.std.proofs.Common.{◌≡◌, ◌==◌, ℕ, Bool, true, false, Option, Some, List, [], ◌∷◌, length, refl, sym, subst, Ok, Err}
 use Rattle.std.specs.Prelude.{◌+◌, IfOk, OnOk, Result, nat_le}
 use Rattle.gr_ids.specs.declared.memory.Memory.{Memory}
 use Rattle.gr_ids.specs.declared.levels.Level.{Level}
@@ -35,7 +35,7 @@ use Rattle.local_sessions.proofs.Awaited.{replied as once_replied}
 use Rattle.local_sessions.proofs.Calling.{said, sent}
 use Rattle.local_sessions.proofs.Replying.{replied}
 use Rattle.member_tables.specs.declared.tables.MemberTables.{MemberTables}
-use Rattle.member_tables.specs.Calling.{CommitsTo, OnceSent}
+use Rattle.member_tables.specs.Calling.{CommitsTo}
 use Rattle.member_tables.specs.Standing.{Keeps, TablesFor}
 use Rattle.member_tables.proofs.Decided.{rekeyed}
 use Rattle.member_tables.proofs.Kept.{keeps_on}

@@ -1,5 +1,5 @@
 -- A session is told its last answer, and holds no key any more.
-use Rattle.std.proofs.Common.{◌≡◌, ℕ, ◌≤◌, arith, Bool, true, false, Option, Some, None, List, [], ◌∷◌, refl, sym, ap, ◌∙◌, subst}
+use Rattle.std.proofs.Common.{◌≡◌, ℕ, arith, Option, Some, None, List, ◌∷◌, refl, sym, ap, ◌∙◌, subst}
 use Rattle.std.specs.Prelude.{IfNone, IfSome, option_to_list}
 use Rattle.std.specs.Option.{option_map}
 use Rattle.gr_ids.specs.declared.names.Inc.{Inc}
@@ -15,7 +15,6 @@ use Rattle.local_sessions.specs.Following.{StandFor}
 use Rattle.local_sessions.specs.Others.{answered, asking}
 use Rattle.local_sessions.specs.Replies.{Does, Ends}
 use Rattle.local_sessions.specs.declared.session.Session.{Session}
-use Rattle.local_sessions.specs.Standing.{without}
 use Rattle.local_sessions.proofs.Awaited.{ended as once_ended}
 use Rattle.local_sessions.proofs.KeyHolders.{ended as locks_ended}
 use Rattle.local_sessions.proofs.Passing.{ended as sessions_ended}

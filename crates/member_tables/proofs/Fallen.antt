@@ -1,10 +1,9 @@
 -- The member takes ERROR: who is told, and what stands then.
-use Rattle.std.proofs.Common.{◌≡◌, ℕ, ◌≤◌, arith, Bool, true, List, [], ◌∷◌, refl, sym, ap, ◌∙◌, subst}
-use Rattle.gr_ids.specs.declared.names.Inc.{Inc}
+use Rattle.std.proofs.Common.{◌≡◌, arith, true, List, [], ◌∷◌, refl, sym, ap, ◌∙◌, subst}
 use Rattle.gr_ids.specs.declared.levels.MemberState.TheVariants.{Error}
 use Rattle.key_items.specs.declared.item.Item.{Item}
 use Rattle.group_rules.specs.declared.marks.Cause.{Cause}
-use Rattle.group_rules.specs.Events.{Answered as AnsweredIn, Ends as EndsIn, Is, Life, Setup}
+use Rattle.group_rules.specs.Events.{Answered as AnsweredIn, Ends as EndsIn, Is}
 use Rattle.group_rules.specs.Member.{Member, fall, last_answer, push}
 use Rattle.row_locks.specs.Locking.{Locked, session_at}
 use Rattle.row_store.proofs.Followed.{passes as rows_pass}

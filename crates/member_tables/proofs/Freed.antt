@@ -1,6 +1,6 @@
 -- A place that is done takes keys over.
-use Rattle.std.proofs.Common.{◌≡◌, ℕ, ◌==◌, arith, Bool, true, false, not, Option, Some, None, List, [], ◌∷◌, refl, sym, ap, ◌∙◌, subst, filter, map}
-use Rattle.std.specs.Prelude.{nat_lt, reverse}
+use Rattle.std.proofs.Common.{◌≡◌, ℕ, ◌==◌, arith, Bool, true, false, Some, List, [], ◌∷◌, refl, sym, ap, ◌∙◌, subst, filter, map}
+use Rattle.std.specs.Prelude.{reverse}
 use Rattle.std.proofs.lemmas.Bool.{eqb-true, lt-ltb, ltb-true}
 use Rattle.gr_ids.specs.declared.names.Inc.{Inc}
 use Rattle.gr_ids.specs.declared.names.Gtid.{Gtid}
@@ -13,7 +13,7 @@ use Rattle.row_locks.specs.Locking.{Locked, holders_of, session_at, taken_over, 
 use Rattle.row_store.proofs.Followed.{passes as rows_pass}
 use Rattle.row_store.proofs.Kept.{keeps_passing}
 use Rattle.local_sessions.specs.declared.session.Session.{Session}
-use Rattle.local_sessions.specs.Following.{LocksOf, StandFor, done_places, place_of, rise}
+use Rattle.local_sessions.specs.Following.{StandFor, place_of, rise}
 use Rattle.local_sessions.specs.Others.{killed_by, unless_killed}
 use Rattle.local_sessions.proofs.Awaited.{alike}
 use Rattle.local_sessions.proofs.Certified.{queued}

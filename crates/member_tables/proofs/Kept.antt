@@ -1,7 +1,6 @@
 -- What happens beside the tables leaves them standing for the history.
-use Rattle.std.proofs.Common.{◌≡◌, ◌==◌, ℕ, ◌≤◌, Bool, true, false, List, [], ◌∷◌, refl, sym, ap, ◌∙◌, subst}
+use Rattle.std.proofs.Common.{◌≡◌, ◌==◌, ℕ, ◌≤◌, Bool, true, false, List, ◌∷◌, refl, sym, ap, ◌∙◌, subst}
 use Rattle.std.proofs.lemmas.Bool.{true≢false}
-use Rattle.gr_ids.specs.declared.names.Gtid.{Gtid}
 use Rattle.gr_ids.specs.declared.names.Inc.{Inc}
 use Rattle.gr_ids.specs.declared.names.ValueId.{ValueId}
 use Rattle.gr_ids.specs.declared.levels.Level.{Level}
@@ -15,7 +14,7 @@ use Rattle.group_rules.specs.Life.{executed, last_made, state, view}
 use Rattle.group_rules.specs.Queue.{queue}
 use Rattle.group_rules.specs.Rows.{known}
 use Rattle.group_rules.specs.Sessions.{begun_set, is_active, phase}
-use Rattle.row_store.specs.Following.{HasCommitted, IsPartOf, RowsOf, is_of_rows}
+use Rattle.row_store.specs.Following.{IsPartOf, is_of_rows}
 use Rattle.row_store.proofs.Followed.{passes as rows_pass}
 use Rattle.row_store.proofs.Kept.{keeps_passing}
 use Rattle.local_sessions.specs.declared.tables.Tables.{Tables}
@@ -25,7 +24,7 @@ use Rattle.local_sessions.proofs.KeyHolders.{passed as locks_passed}
 use Rattle.local_sessions.proofs.Passing.{passed as sessions_passed}
 use Rattle.local_sessions.proofs.StillActive.{passed as left_passed}
 use Rattle.member_tables.specs.declared.tables.MemberTables.{MemberTables}
-use Rattle.member_tables.specs.Standing.{HasGtids, Keeps, Stands, is_of_tables}
+use Rattle.member_tables.specs.Standing.{Keeps, Stands, is_of_tables}
 
 -- ---- who is active after a call, an ask or an end was so before
 

@@ -1,5 +1,5 @@
 -- The begin, an entry, a state.
-use Rattle.std.proofs.Common.{◌≡◌, ◌⊎◌, inl, inr, ℕ, ◌≤◌, arith, Bool, true, false, not, Option, Some, None, List, [], ◌∷◌, ◌++◌, refl, sym, ap, ◌∙◌, subst}
+use Rattle.std.proofs.Common.{◌≡◌, ◌⊎◌, inl, inr, arith, false, Option, None, List, [], ◌∷◌, ◌++◌, refl, sym, ap, ◌∙◌, subst}
 use Rattle.std.proofs.lemmas.Bool.{true≢false}
 use Rattle.gr_ids.specs.declared.names.Inc.{Inc}
 use Rattle.gr_ids.specs.declared.levels.MemberState.{MemberState}
@@ -16,8 +16,8 @@ use Rattle.group_rules.specs.View.{founding}
 use Rattle.group_rules.specs.Steps.{found, start}
 use Rattle.row_locks.specs.Locking.{Locked}
 use Rattle.group_rules.specs.Events.{Cert, Did, Entry, Founds, Is, Life, Setup, Starts, Stored, Took}
-use Rattle.group_rules.specs.Life.{cert_of, certs, executed, is_error, last_made, state, stored, view}
-use Rattle.group_rules.specs.Queue.{is_done, pending, queue}
+use Rattle.group_rules.specs.Life.{cert_of, certs, executed, is_error, state, stored, view}
+use Rattle.group_rules.specs.Queue.{is_done}
 use Rattle.group_rules.specs.Rows.{all_in, known}
 use Rattle.row_store.specs.Following.{RowsOf}
 use Rattle.row_store.specs.Chains.{Chain}

@@ -1,5 +1,5 @@
 -- What an entry, a state and a commit make of the queue.
-use Rattle.std.proofs.Common.{◌≡◌, ◌⊎◌, inl, inr, ℕ, ◌==◌, Bool, true, false, ◌&&◌, ◌||◌, not, Option, Some, None, List, [], ◌∷◌, ◌++◌, refl, sym, ap, ◌∙◌, filter}
+use Rattle.std.proofs.Common.{◌≡◌, ◌⊎◌, inl, inr, ℕ, ◌==◌, Bool, true, false, ◌||◌, not, Option, Some, None, List, [], ◌∷◌, ◌++◌, refl, sym, ap, ◌∙◌, filter}
 use Rattle.std.specs.Prelude.{reverse}
 use Rattle.std.proofs.lemmas.List.{reverse-append}
 use Rattle.std.proofs.lemmas.List.Elements.{filter-append}
@@ -17,7 +17,6 @@ use Rattle.group_rules.specs.declared.marks.Effect.TheVariants.{Plain, Void, Unr
 use Rattle.group_rules.specs.Events.{Cert, Committed, Entry, Life, Took}
 use Rattle.group_rules.specs.Life.{cert_by, cert_of, certs, executed, is_error, state}
 use Rattle.group_rules.specs.Queue.{is_done, is_own, pending, queue}
-use Rattle.row_locks.specs.declared.done.DonePlace.{DonePlace}
 use Rattle.local_sessions.specs.Following.{done_places}
 use Rattle.local_sessions.proofs.Queued.{passed, taken}
 

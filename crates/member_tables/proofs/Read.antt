@@ -1,12 +1,8 @@
 -- The tables are those that the sessions read, and a Give leaves them so.
-use Rattle.std.proofs.Common.{◌≡◌, ◌⊎◌, inl, inr, ℕ, ◌≤◌, arith, Bool, true, false, not, Option, Some, None, List, [], ◌∷◌, ◌++◌, refl, sym, ap, ◌∙◌, subst, reverse, filter}
-use Rattle.std.proofs.lemmas.Bool.{true≢false}
-use Rattle.gr_ids.specs.declared.names.Gtid.{Gtid}
-use Rattle.gr_ids.specs.declared.names.Inc.{Inc}
-use Rattle.gr_ids.specs.Names.{gtid_eq}
+use Rattle.std.proofs.Common.{◌≡◌, ◌⊎◌, inl, inr, ℕ, arith, false, List, [], ◌∷◌, refl, sym, ap, ◌∙◌, reverse}
 use Rattle.node_rules.specs.Lists.{In}
 use Rattle.paxos_forms.specs.declared.recovery.Give.{Give}
-use Rattle.group_rules.specs.Events.{Cert, Life, Restores, Setup}
+use Rattle.group_rules.specs.Events.{Cert, Restores}
 use Rattle.gtid_sets.specs.Sets.{has}
 use Rattle.group_rules.specs.Life.{certs, executed, stored}
 use Rattle.group_rules.specs.Sessions.{begun_set}
@@ -18,12 +14,11 @@ use Rattle.row_locks.specs.Locking.{place_at}
 use Rattle.row_store.proofs.Followed.{now_told, restores as rows_restore, set_told}
 use Rattle.row_store.proofs.Kept.{keeps_restoring}
 use Rattle.row_store.proofs.Known.{all_first, in_all, in_reverse}
-use Rattle.row_store.proofs.Versions.{gtid_itself, same_gtid}
-use Rattle.local_sessions.specs.Following.{TablesOf, done_places}
+use Rattle.local_sessions.specs.Following.{TablesOf}
 use Rattle.local_sessions.proofs.Queued.{named, none}
-use Rattle.member_truth.specs.Truth.{AreDistinct, IsTrueGive}
+use Rattle.member_truth.specs.Truth.{IsTrueGive}
 use Rattle.member_tables.specs.declared.tables.MemberTables.{MemberTables}
-use Rattle.member_tables.specs.Standing.{HasGtids, Keeps, Stands, TablesFor}
+use Rattle.member_tables.specs.Standing.{Keeps, Stands, TablesFor}
 use Rattle.member_tables.proofs.Gtids.{more_gtids}
 use Rattle.member_tables.proofs.Kept.{stands_with}
 

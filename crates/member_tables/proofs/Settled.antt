@@ -1,31 +1,26 @@
 -- A commit: the rows, the executed set and the queue of the longer history.
-use Rattle.std.proofs.Common.{◌≡◌, ◌⊎◌, inl, inr, ℕ, ◌==◌, ◌≤◌, arith, Bool, true, false, ◌||◌, not, Option, Some, None, List, [], ◌∷◌, refl, sym, ap, ◌∙◌, subst, filter}
+use Rattle.std.proofs.Common.{◌≡◌, inl, inr, ◌==◌, arith, Bool, true, false, ◌||◌, not, List, [], ◌∷◌, refl, sym, ap, ◌∙◌, subst, filter}
 use Rattle.std.specs.Prelude.{reverse}
 use Rattle.std.proofs.lemmas.Bool.{true≢false, eqb-true, eq-eqb}
 use Rattle.gr_ids.specs.declared.names.Gtid.{Gtid}
 use Rattle.gr_ids.specs.declared.names.Inc.{Inc}
-use Rattle.gr_ids.specs.declared.names.ValueId.{ValueId}
 use Rattle.gr_ids.specs.Names.{gtid_eq}
-use Rattle.gtid_sets.specs.Sets.{Gtids, has, with_gtid}
+use Rattle.gtid_sets.specs.Sets.{has, with_gtid}
 use Rattle.gtid_sets.proofs.LawLemmas.{all_with_gtid}
 use Rattle.gtid_sets.proofs.PutLemmas.{canonical_with_gtid}
-use Rattle.key_items.specs.declared.change.Change.{Change}
-use Rattle.key_items.specs.declared.item.Item.{Item}
 use Rattle.node_rules.specs.Lists.{In}
 use Rattle.group_rules.specs.Events.{Cert, Committed, Life, Setup}
 use Rattle.group_rules.specs.Life.{certs, executed, stored}
 use Rattle.group_rules.specs.Queue.{pending, queue}
 use Rattle.group_rules.specs.Sessions.{begun_set}
-use Rattle.group_rules.specs.Rows.{all_in, changed_row, known}
-use Rattle.row_locks.specs.declared.done.DonePlace.{DonePlace}
-use Rattle.row_locks.specs.Locking.{Locked, without_place}
-use Rattle.row_store.specs.Chains.{IsApplied, row_now}
-use Rattle.row_store.specs.Following.{IsCommit, IsPartOf, RowsOf}
+use Rattle.group_rules.specs.Rows.{all_in, known}
+use Rattle.row_locks.specs.Locking.{without_place}
+use Rattle.row_store.specs.Following.{IsCommit}
 use Rattle.row_store.proofs.Commits.{commits as rows_commit}
 use Rattle.row_store.proofs.Followed.{part_stays}
 use Rattle.row_store.proofs.Kept.{keeps_committing}
 use Rattle.row_store.proofs.Known.{all_second, in_reverse}
-use Rattle.row_store.proofs.Versions.{gtid_itself, same_gtid}
+use Rattle.row_store.proofs.Versions.{gtid_itself}
 use Rattle.local_sessions.specs.declared.tables.Tables.{Tables}
 use Rattle.local_sessions.specs.Following.{LocksOf, done_places}
 use Rattle.local_sessions.proofs.Awaited.{passed as once_passed}
@@ -34,7 +29,7 @@ use Rattle.local_sessions.proofs.Passing.{passed as sessions_passed}
 use Rattle.local_sessions.proofs.Queued.{freed}
 use Rattle.local_sessions.proofs.StillActive.{passed as left_passed}
 use Rattle.member_tables.specs.declared.tables.MemberTables.{MemberTables}
-use Rattle.member_tables.specs.Committing.{IsNext, IsOf, Settles}
+use Rattle.member_tables.specs.Committing.{IsNext, Settles}
 use Rattle.member_tables.specs.Standing.{HasGtids, Keeps, Stands}
 use Rattle.member_tables.proofs.Queues.{commits}
 

@@ -64,12 +64,7 @@ impl MemberTables {
 }
 
 // The transaction's changes are the newest, its GTID is executed, and its place holds nothing any more.
-fn settle(
-    at: &mut Tables,
-    place: Pos,
-    gtid: Gtid,
-    changes: Sequence<Change>,
-) -> Result<(), Memory>
+fn settle(at: &mut Tables, place: Pos, gtid: Gtid, changes: Sequence<Change>) -> Result<(), Memory>
     requires { IsNumber gtid.number }
     ensures ok { OnOk result (Settles place gtid changes at.old at.new) }
     ensures err { OnErr result (IsAsBefore at.old at.new) }

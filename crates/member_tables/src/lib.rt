@@ -9,6 +9,8 @@ mod laws;
 mod leaving;
 mod places;
 mod tables;
+#[cfg(test)]
+mod tests;
 
 pub use laws::tables_stand_for_their_member;
 pub use tables::MemberTables;

@@ -61,4 +61,10 @@ impl MemberTables {
             sessions: Sessions::new(alloc),
         }
     }
+    /// What its sessions read and write.
+    pub fn tables(&self) -> &Tables
+        ensures { result.now ≡ self.now.tables }
+    {
+        &self.tables
+    }
 }

@@ -1,5 +1,5 @@
 -- The one that waits is answered.
-use Rattle.std.proofs.Common.{◌≡◌, sym, ap, ◌∙◌, subst}
+use Rattle.std.proofs.Common.{sym, ap, ◌∙◌, subst}
 use Rattle.std.specs.Prelude.{option_to_list}
 use Rattle.group_rules.specs.declared.answers.Answer.TheVariants.{Conflict as ConflictWith}
 use Rattle.group_rules.specs.Member.{Member}
