@@ -57,6 +57,16 @@ impl Sessions {
         Ok(Answer::Begun(told, sync))
     }
 
+    /// Whether the session's begin is held.
+    pub fn is_held(&self, session: SessionId) -> bool
+        ensures { result ≡ is_held (session_in self.now session) }
+    {
+        match stage_at(&self.list, session) {
+            Some(Stage::Holding) => true,
+            _ => false,
+        }
+    }
+
     /// The begin, which is held, has waited for its limit of ticks, and ends; takes no memory.
     pub fn timed_out(&mut self, session: SessionId, limit: u32) -> Answer
         requires { is_held (session_in self.old session) ≡ true }

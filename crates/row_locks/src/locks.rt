@@ -118,6 +118,13 @@ impl Locks {
         drop_place(&mut self.places, place);
     }
 
+    /// No place holds anything any more. Linear in the done places; takes no memory.
+    pub fn free_places(&mut self)
+        ensures { self.new ≡ record self.old { places = [] } }
+    {
+        self.places.clear();
+    }
+
     fn holder_beside(
         &self,
         item: &Item,

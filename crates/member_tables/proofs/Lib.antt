@@ -1,0 +1,14 @@
+pub mod Kept
+pub mod Gtids
+pub mod Read
+pub mod Queues
+pub mod Listed
+pub mod Decided
+pub mod Settled
+pub mod Answering
+pub mod Freed
+pub mod Results
+pub mod Beginning
+pub mod Fallen
+pub mod Called
+pub mod Asked

@@ -1,0 +1,16 @@
+//! The tables of a member: what its sessions read and write, together with the sessions.
+#![tactic(auto)]
+
+mod begins;
+mod calls;
+mod commits;
+mod entries;
+mod laws;
+mod leaving;
+mod places;
+mod tables;
+#[cfg(test)]
+mod tests;
+
+pub use laws::tables_stand_for_their_member;
+pub use tables::MemberTables;

@@ -1,0 +1,137 @@
+ghost use Rattle.std.specs.Prelude.{◌≡◌, ◌≤◌, IfOk, length};
+ghost use Rattle.key_items.specs.Spelling.{IsItem};
+
+use crate::MemberTables;
+use gr_ids::{Blob, Gtid, Inc, Level, Memory, Mode, Pos, Sequence, SessionId, ValueId};
+use group_rules::{Answer, Holder};
+use key_items::{Change, ChangeKind, Item, WriteSet};
+use local_sessions::CommitStep;
+use std::alloc::Global;
+use std::process::Abort;
+use std::test::Fail;
+
+const ME: Inc = Inc {
+    server: 1,
+    start: 1,
+};
+
+fn item(alloc: Global) -> Result<Item, Memory>
+    ensures { IfOk result (λ i. IsItem i) }
+{
+    Ok(Item {
+        table: Blob::of(alloc, b"t")?,
+        key: Blob::of(alloc, b"a")?,
+    })
+}
+
+fn gtid(number: u64) -> Gtid
+    ensures { result.number ≡ number }
+{
+    Gtid {
+        source: [7; 16],
+        number,
+    }
+}
+
+fn id(number: u64) -> ValueId {
+    ValueId { origin: ME, number }
+}
+
+// The row of the item becomes this one.
+fn write(alloc: Global, row: &[u8]) -> Result<Sequence<Change>, Memory> {
+    let mut changes = Vec::new(alloc);
+    changes.push(Change {
+        item: item(alloc)?,
+        what: ChangeKind::Insert(Blob::of(alloc, row)?),
+    })?;
+    Ok(Sequence::from_vec(changes))
+}
+
+fn begin(rt: &impl Abort, tables: &mut MemberTables, session: u32) -> Result<(), Fail> {
+    let answer = tables.begin(SessionId(session), Level::Eventual, 3)?;
+    assert!(rt; matches!(answer, Answer::Held));
+    Ok(())
+}
+
+fn open(rt: &impl Abort, tables: &mut MemberTables, session: u32) -> Result<(), Fail> {
+    begin(rt, tables, session)?;
+    assert!(rt; tables.is_held(SessionId(session)));
+    let _ = tables.begun(SessionId(session), None)?;
+    Ok(())
+}
+
+// The session updates the row, and its commit is asked as value 1.
+fn ask(rt: &impl Abort, alloc: Global, tables: &mut MemberTables) -> Result<(), Fail> {
+    let answer = tables.insert(SessionId(1), item(alloc)?, Blob::of(alloc, b"1")?)?;
+    assert!(rt; matches!(answer, Answer::Changed));
+    match tables.commit_call(SessionId(1))? {
+        CommitStep::Ready(_) => {
+            let _ = tables.sent(SessionId(1), id(1));
+        }
+        CommitStep::Said(_) => assert!(rt; false),
+    }
+    Ok(())
+}
+
+// The length of the row that the session gets.
+fn row(
+    rt: &impl Abort,
+    alloc: Global,
+    tables: &mut MemberTables,
+    session: u32,
+) -> Result<usize, Fail> {
+    match tables.get(SessionId(session), item(alloc)?)? {
+        Answer::Got(Some(row)) => Ok(row.len()),
+        Answer::Got(None) => Ok(0),
+        _ => {
+            assert!(rt; false);
+            Ok(0)
+        }
+    }
+}
+
+#[test]
+fn a_commit_is_read_and_a_done_place_kills(rt: HostRuntime) -> Result<(), Fail> {
+    let alloc = rt.alloc();
+    let mut tables = MemberTables::founded(alloc, ME, Mode::Multi, None);
+    open(&rt, &mut tables, 1)?;
+    ask(&rt, alloc, &mut tables)?;
+    let told = tables.commit(Pos(1), gtid(1), Some(id(1)), write(alloc, b"1")?)?;
+    assert!(rt; matches!(told, Some(_)));
+    open(&rt, &mut tables, 2)?;
+    open(&rt, &mut tables, 3)?;
+    let answer = tables.update(SessionId(3), item(alloc)?, Blob::of(alloc, b"33")?)?;
+    assert!(rt; matches!(answer, Answer::Changed));
+    let mut items = WriteSet::new(alloc);
+    items.add(item(alloc)?)?;
+    tables.done(Pos(2), gtid(2), &items)?;
+    let answer = tables.get(SessionId(3), item(alloc)?)?;
+    assert!(rt; matches!(answer, Answer::Killed(_)));
+    let answer = tables.delete(SessionId(2), item(alloc)?)?;
+    assert!(rt; matches!(answer, Answer::RowLocked(Holder::Place(_, _))));
+    let told = tables.commit(Pos(2), gtid(2), None, write(alloc, b"222")?)?;
+    assert!(rt; matches!(told, None));
+    assert_eq!(rt; row(&rt, alloc, &mut tables, 2)?, 1);
+    open(&rt, &mut tables, 4)?;
+    assert_eq!(rt; row(&rt, alloc, &mut tables, 4)?, 3);
+    Ok(())
+}
+
+#[test]
+fn those_that_wait_are_told(rt: HostRuntime) -> Result<(), Fail> {
+    let alloc = rt.alloc();
+    let mut tables = MemberTables::founded(alloc, ME, Mode::Multi, None);
+    open(&rt, &mut tables, 1)?;
+    ask(&rt, alloc, &mut tables)?;
+    assert!(rt; matches!(tables.conflict(id(2), gtid(1)), None));
+    assert!(rt; matches!(tables.conflict(id(1), gtid(1)), Some(_)));
+    begin(&rt, &mut tables, 1)?;
+    assert!(rt; tables.is_held(SessionId(1)));
+    assert!(rt; matches!(tables.timed_out(SessionId(1), 3), Answer::HoldTimeout(3)));
+    begin(&rt, &mut tables, 1)?;
+    open(&rt, &mut tables, 2)?;
+    assert_eq!(rt; tables.fall(&[])?.as_slice().len(), 1);
+    let answer = tables.rollback(SessionId(2))?;
+    assert!(rt; matches!(answer, Answer::MemberLeft));
+    Ok(())
+}
