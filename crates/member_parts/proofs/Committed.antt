@@ -142,7 +142,7 @@ own_found c (d ∷ ds) m o = go (gtid_eq c.gtid d.gtid) refl m (λ n. own_found 
 
 -- ---- facts of the history
 
-in_certs : (l : Life) (c : Cert) → In c (pending l) → In c (certs l)
+pub in_certs : (l : Life) (c : Cert) → In c (pending l) → In c (certs l)
 in_certs l c m = in_reverse c (certs l) (in_filter (lacks (executed l)) c (reverse (certs l)) m).0
 
 pub pending_rises : (s : Setup) (me : Inc) (l : Life) (x : MemberParts) → StandsFor s me l x → IsRising (pending l)

@@ -9,4 +9,5 @@ pub mod Begun
 pub mod Passed
 pub mod Committed
 pub mod Holds
+pub mod Told
 pub mod Asked

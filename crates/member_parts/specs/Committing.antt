@@ -1,5 +1,6 @@
 -- A commit of a pending transaction.
-use Rattle.std.specs.Prelude.{◌≡◌, true, false, Option, Some, None}
+use Rattle.std.specs.Prelude.{◌≡◌, ℕ, Bool, true, false, ◌||◌, Option, Some, None, List, nat_lt}
+use Rattle.std.specs.List.{list_all}
 use Rattle.gr_ids.specs.declared.names.Gtid.{Gtid}
 use Rattle.gr_ids.specs.declared.names.Inc.{Inc}
 use Rattle.gtid_sets.specs.Canonical.{IsNumber}
@@ -11,11 +12,18 @@ use Rattle.group_rules.specs.Commit.{may_commit}
 use Rattle.group_rules.specs.Events.{Cert, Life, Setup}
 use Rattle.group_rules.specs.Life.{is_error, state}
 use Rattle.group_rules.specs.Queue.{pending}
+use Rattle.group_rules.specs.declared.said.QueuedPlace.{QueuedPlace}
 use Rattle.apply_queue.specs.declared.work.WorkDone.{WorkDone}
 use Rattle.member_backlog.specs.declared.uncommitted.Uncommitted.{Uncommitted}
 use Rattle.member_backlog.specs.Standing.{uncommitted_of}
 
--- it is pending, as it waits in the backlog, and may be committed now
+-- it is pending, as it waits in the backlog
+pub record IsPending (l : Life) (c : Cert) (u : Uncommitted) : Type 0 where
+  pub well : is_error (state l) ≡ false
+  pub waits : In c (pending l)
+  pub is_it : u ≡ uncommitted_of c
+
+-- it is pending, and may be committed now
 pub record MayGo (s : Setup) (me : Inc) (l : Life) (c : Cert) (u : Uncommitted) : Type 0 where
   pub well : is_error (state l) ≡ false
   pub waits : In c (pending l)
@@ -37,3 +45,9 @@ prepared_in x = None
 abbrev pub HasNumber : Option Gtid → Type 0
 HasNumber None = Unit {0}
 HasNumber (Some g) = IsNumber g.number
+
+-- ---- what is done
+
+-- all queued places up to this one are done
+abbrev pub are_done_to : ℕ → List QueuedPlace → Bool
+are_done_to p qs = list_all {X = QueuedPlace} (λ q. nat_lt p q.place || q.done) qs

@@ -88,7 +88,7 @@ impl MemberParts {
     }
 }
 
-fn is_mine(one: &Uncommitted, me: Inc) -> bool
+pub(crate) fn is_mine(one: &Uncommitted, me: Inc) -> bool
     ensures { result ≡ inc_eq one.now.id.origin me }
 {
     one.id.origin == me

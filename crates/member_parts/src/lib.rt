@@ -11,6 +11,7 @@ mod joining;
 mod laws;
 mod own;
 mod parts;
+mod reading;
 mod remotes;
 #[cfg(test)]
 mod tests;
