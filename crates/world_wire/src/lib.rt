@@ -1,6 +1,12 @@
 //! The messages that were ever sent in the world that a script plays in, and which of them may be delivered next.
 #![tactic(auto, using(crate::proofs::Lengths::lengths))]
 
+mod fault;
 mod forms;
+mod lane;
+mod letter;
 mod sizes;
 mod sums;
+
+pub use fault::WireFault;
+pub use letter::Letter;
