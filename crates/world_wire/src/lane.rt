@@ -93,8 +93,9 @@ impl Lane {
         ensures { result ≡ find (is_next_at among.now running.now letters.now) self.now.indexes }
     {
         for at in 0..self.indexes.len() {
-            if is_letter_next(letters, self.indexes[at], among, running) {
-                return Some(self.indexes[at]);
+            let index = self.indexes[at];
+            if is_letter_next(letters, index, among, running) {
+                return Some(index);
             }
         }
         None
