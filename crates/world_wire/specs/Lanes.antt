@@ -1,11 +1,11 @@
 -- The index of the letters that may still be delivered: for each pair of a server and an incarnation a lane, with the indexes of the letters
 -- from that server to that incarnation.
 use Rattle.std.specs.Prelude.{◌≡◌, ◌&&◌, ◌==◌, ◌++◌, ◌∷◌, [], ℕ, Bool, true, false, List, Option, Some, None, filter, nat_lt}
-use Rattle.std.specs.List.{list_all, list_any, slice_get}
+use Rattle.std.specs.List.{find, list_all, list_any, slice_get}
 use Rattle.gr_ids.specs.Names.{inc_eq}
 use Rattle.gr_ids.specs.declared.names.Inc.{Inc}
 use Rattle.group_rules.specs.Script.{Letter}
-use Rattle.world_wire.specs.Nexts.{is_open}
+use Rattle.world_wire.specs.Nexts.{is_next_at, is_open, lower, serves}
 
 pub record LaneOf : Type 0 where
   pub to : Inc
@@ -51,3 +51,12 @@ dropped xs (i ∷ is) = elim (opens (slice_get xs i)) [ true ↦ i ∷ is | fals
 
 abbrev pub dropped_in : List Letter → LaneOf → LaneOf
 dropped_in xs l = record l { indexes = dropped xs l.indexes }
+
+-- the first letter of a lane that is next
+abbrev pub next_of_lane : List ℕ → List Inc → List Letter → LaneOf → Option ℕ
+next_of_lane ns is xs l = elim (serves ns is l.from l.to) [ true ↦ find (is_next_at ns is xs) l.indexes | false ↦ None ]
+
+-- the least of these and of one that is known
+abbrev pub next_in : List ℕ → List Inc → List Letter → Option ℕ → List LaneOf → Option ℕ
+next_in ns is xs o [] = o
+next_in ns is xs o (l ∷ ls) = next_in ns is xs (lower o (next_of_lane ns is xs l)) ls

@@ -4,9 +4,13 @@
 mod fault;
 mod forms;
 mod lane;
+mod lanes;
 mod letter;
+mod letters;
 mod sizes;
 mod sums;
+mod wire;
 
 pub use fault::WireFault;
 pub use letter::Letter;
+pub use wire::Wire;
