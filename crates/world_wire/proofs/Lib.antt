@@ -1,6 +1,8 @@
-pub mod Results
-pub mod Lengths
-pub mod Rising
 pub mod Dropping
-pub mod Members
 pub mod Indexing
+pub mod Least
+pub mod Lengths
+pub mod Numbered
+pub mod Members
+pub mod Results
+pub mod Rising

@@ -5,7 +5,7 @@ use Rattle.std.specs.List.{find, list_all, list_any, slice_get}
 use Rattle.gr_ids.specs.Names.{inc_eq}
 use Rattle.gr_ids.specs.declared.names.Inc.{Inc}
 use Rattle.group_rules.specs.Script.{Letter}
-use Rattle.world_wire.specs.Nexts.{is_next_at, is_open, lower, serves}
+use Rattle.world_wire.specs.Nexts.{is_next_at, is_open, lower, passes, serves}
 
 pub record LaneOf : Type 0 where
   pub to : Inc
@@ -41,8 +41,7 @@ abbrev pub put_at : ℕ → LaneOf → LaneOf
 put_at i l = record l { indexes = filter (λ j. nat_lt j i) l.indexes ++ i ∷ [] }
 
 abbrev pub opens : Option Letter → Bool
-opens None = false
-opens (Some x) = is_open x
+opens o = passes is_open o
 
 -- without those in front that name no open letter
 abbrev pub dropped : List Letter → List ℕ → List ℕ

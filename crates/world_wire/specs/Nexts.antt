@@ -22,13 +22,14 @@ serves ns is from to = are_among ns from to.server && has_inc is to
 abbrev pub is_next_of : List ℕ → List Inc → Letter → Bool
 is_next_of ns is x = is_open x && serves ns is x.message.from.server x.message.to
 
-abbrev pub passes : List ℕ → List Inc → Option Letter → Bool
-passes ns is None = false
-passes ns is (Some x) = is_next_of ns is x
+-- there is a letter, and it passes the test
+abbrev pub passes : (Letter → Bool) → Option Letter → Bool
+passes p None = false
+passes p (Some x) = p x
 
 -- the letter with this index
 abbrev pub is_next_at : List ℕ → List Inc → List Letter → ℕ → Bool
-is_next_at ns is xs i = passes ns is (slice_get xs i)
+is_next_at ns is xs i = passes (is_next_of ns is) (slice_get xs i)
 
 -- the lower of two
 abbrev pub lower : Option ℕ → Option ℕ → Option ℕ

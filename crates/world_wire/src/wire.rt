@@ -1,5 +1,5 @@
 // The messages that were ever sent.
-ghost use Rattle.std.specs.Prelude.{◌≡◌, ◌<◌, ◌+◌, ◌^◌, ◌++◌, [], None, Some, false, suc, length, map, option_copied, option_map, IfErr, IfNone, IfOk, IfSome, OnErr, OnOk};
+ghost use Rattle.std.specs.Prelude.{◌≡◌, ◌<◌, ◌+◌, ◌^◌, ◌++◌, [], None, Some, false, true, suc, length, map, option_copied, option_map, IfErr, IfNone, IfOk, IfSome, OnErr, OnOk};
 ghost use Rattle.gr_ids.specs.Names.{has_inc};
 ghost use Rattle.gr_ids.specs.declared.names.Inc.{Inc as Incarnation};
 ghost use Rattle.group_rules.specs.Script.{is_full, letter as letter_of, letter_at, next_letter, set_letter, total, wire_lines};
