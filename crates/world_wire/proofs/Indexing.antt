@@ -1,7 +1,7 @@
 -- The index after a change of one lane, and after one more letter.
-use Rattle.std.proofs.Common.{◌≡◌, ◌⊎◌, inl, inr, ℕ, ◌<◌, ◌≤◌, Bool, true, false, nat_lt, Option, Some, List, [], ◌∷◌, ◌++◌, length, refl, sym, ap, subst, ◌∙◌, arith}
+use Rattle.std.proofs.Common.{◌≡◌, ◌⊎◌, inl, inr, ℕ, ◌<◌, ◌≤◌, true, nat_lt, Some, List, [], ◌∷◌, ◌++◌, length, sym, ap, subst, ◌∙◌, arith}
 use Rattle.std.specs.Prelude.{slice_set}
-use Rattle.std.specs.List.{filter, list_all, list_any, slice_get}
+use Rattle.std.specs.List.{filter, list_any, slice_get}
 use Rattle.std.proofs.lemmas.Bool.{and_from, and_parts, lt-ltb}
 use Rattle.std.proofs.lemmas.Option.{slice_get_within}
 use Rattle.group_rules.specs.Script.{Letter}
@@ -32,8 +32,8 @@ put_keeps ls xs at l n s g ix =
     changed ls xs at l (filter (λ j. nat_lt j n) l.indexes ++ n ∷ []) g
     (push_rises (filter (λ j. nat_lt j n) l.indexes) n (all_pass (λ j. nat_lt j n) l.indexes) (filter_rises (λ j. nat_lt j n) l.indexes (lane_rises ls xs at l g ix)))
     (λ i x e o h.
-        let low : i < n = omega (arith, slice_get_within xs i x e) in
-        push_has (filter (λ j. nat_lt j n) l.indexes) n i (filter_has (λ j. nat_lt j n) l.indexes i (lt-ltb i n low) h)) ix
+    let low : i < n = omega (arith, slice_get_within xs i x e) in
+    push_has (filter (λ j. nat_lt j n) l.indexes) n i (filter_has (λ j. nat_lt j n) l.indexes i (lt-ltb i n low) h)) ix
 
 more : (ls : List LaneOf) (xs : List Letter) (x : Letter) → list_any (lists (length xs) x) ls ≡ true → IsIndex ls xs → IsIndex ls (xs ++ x ∷ [])
 more ls xs x h ix = record {

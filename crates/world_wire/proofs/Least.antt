@@ -1,8 +1,8 @@
 -- The least of the lanes is the next letter of the rules.
-use Rattle.std.proofs.Common.{◌≡◌, ◌⊎◌, inl, inr, ℕ, zero, suc, ◌+◌, ◌<◌, ◌≤◌, Bool, true, false, ◌&&◌, ◌||◌, ◌==◌, nat_lt, Option, Some, None, List, [], ◌∷◌, length, refl, sym, ap, subst, ◌∙◌, arith, leb}
+use Rattle.std.proofs.Common.{◌≡◌, ◌⊎◌, inl, inr, ℕ, zero, suc, ◌+◌, ◌<◌, ◌≤◌, Bool, true, false, ◌&&◌, ◌||◌, ◌==◌, nat_lt, Option, Some, None, List, [], ◌∷◌, length, refl, sym, ap, ◌∙◌, arith, leb}
 use Rattle.std.specs.Prelude.{option_map}
 use Rattle.std.specs.List.{find, list_all, list_any, slice_get}
-use Rattle.std.proofs.lemmas.Bool.{and_from, and_parts, or_cases, ltb-true, ltb-false, leb-true, le-leb, eqb-true, true≢false, false≢true}
+use Rattle.std.proofs.lemmas.Bool.{and_parts, or_cases, ltb-true, ltb-false, leb-true, le-leb, eqb-true, true≢false, false≢true}
 use Rattle.std.proofs.lemmas.Option.{slice_get_within}
 use Rattle.node_rules.proofs.Incs.{inc_is}
 use Rattle.gr_ids.specs.Names.{has_inc, inc_eq}
@@ -166,6 +166,7 @@ module _ (ns : List ℕ) (is : List Inc) (xs : List Letter) where
     where
       there : passes (is_next_of ns is) (slice_get xs k) ≡ true
       there = sym (ap (holds (is_next_at ns is xs)) e) ∙ next_holds None ls refl
+
       go : (o : Option Letter) → slice_get xs k ≡ o → k < length xs
       go None f = absurd (false≢true (sym (ap (λ o. passes (is_next_of ns is) o) f) ∙ there))
       go (Some x) f = slice_get_within xs k x f
@@ -183,12 +184,15 @@ first_is_least p (x ∷ xs) = go (p x) refl (first_is_least p xs)
     later_holds : (o : Option ℕ) → holds (λ k. passes p (slice_get xs k)) o ≡ true → holds (λ k. passes p (slice_get (x ∷ xs) k)) (option_map suc o) ≡ true
     later_holds None h = refl
     later_holds (Some k) h = h
+
     later_most : (o : Option ℕ) (m : ℕ) → is_at_most o m ≡ true → is_at_most (option_map suc o) (suc m) ≡ true
     later_most None m h = h
     later_most (Some k) m h = le-leb (suc k) (suc m) (omega (arith, leb-true k m h))
+
     later_least : (o : Option ℕ) → p x ≡ false → ((m : ℕ) → passes p (slice_get xs m) ≡ true → is_at_most o m ≡ true) → (m : ℕ) → passes p (slice_get (x ∷ xs) m) ≡ true → is_at_most (option_map suc o) m ≡ true
     later_least o f h zero t = absurd (true≢false (sym t ∙ f))
     later_least o f h (suc m) t = later_most o m (h m t)
+
     go : (b : Bool) → p x ≡ b → IsLeast (λ k. passes p (slice_get xs k)) (first p xs) → IsLeast (λ k. passes p (slice_get (x ∷ xs) k)) (first p (x ∷ xs))
     go true f r = rw (f, first) (record { holding = f; least = λ m h. le-leb 0 m (omega arith) })
     go false f r = rw (f, first) (record { holding = later_holds (first p xs) r.holding; least = later_least (first p xs) f r.least })
@@ -220,6 +224,7 @@ search_is_first w ns j (x ∷ xs) = go (is_next w ns x) refl (search_is_first w 
     shift : (o : Option ℕ) → option_map (λ i. suc j + i) o ≡ option_map (λ i. j + i) (option_map suc o)
     shift None = refl
     shift (Some i) = let e : suc j + i ≡ j + suc i = omega arith in ap (λ n. Some n) e
+
     go : (b : Bool) → is_next w ns x ≡ b → next_letter w ns (suc j) xs ≡ option_map (λ i. suc j + i) (first (is_next w ns) xs) → next_letter w ns j (x ∷ xs) ≡ option_map (λ i. j + i) (first (is_next w ns) (x ∷ xs))
     go true f r = let e : j ≡ j + 0 = omega arith in search_ends w ns j x xs f ∙ (ap (λ n. Some n) e ∙ ap (option_map (λ i. j + i)) (sym (first_here (is_next w ns) x xs f)))
     go false f r = search_goes_on w ns j x xs f ∙ (r ∙ (shift (first (is_next w ns) xs) ∙ ap (option_map (λ i. j + i)) (sym (first_later (is_next w ns) x xs f))))
@@ -233,12 +238,16 @@ next_test w ns is h x = go (x.delivered || x.lost) refl
   where
     closed : (x.delivered || x.lost) ≡ true → is_next w ns x ≡ false
     closed f = rw (f, is_next) refl
+
     stands : (x.delivered || x.lost) ≡ false → is_next w ns x ≡ (is_among ns x.message && runs w x.message.to)
     stands f = rw (f, is_next) refl
+
     not_open : (x.delivered || x.lost) ≡ true → is_open x ≡ false
     not_open f = rw (f, is_open) refl
+
     open_now : (x.delivered || x.lost) ≡ false → is_open x ≡ true
     open_now f = rw (f, is_open) refl
+
     go : (b : Bool) → (x.delivered || x.lost) ≡ b → is_next w ns x ≡ is_next_of ns is x
     go true f = closed f ∙ sym (ap (λ b. b && serves ns is x.message.from.server x.message.to) (not_open f))
     go false f =

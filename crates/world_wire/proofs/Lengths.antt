@@ -2,6 +2,5 @@
 use Rattle.std.proofs.Common.{◌≡◌, length-append}
 use Rattle.byte_forms.proofs.NumberLemmas.{length-number}
 use Rattle.std.proofs.lemmas.List.{take_more, take_all}
-use Rattle.std.proofs.lemmas.Grind.{common_steps}
 
 pub ruleset lengths = (length-append, length-number)

@@ -1,11 +1,20 @@
 -- The k-th letter and its change; sums of bytes; the index of a part of the letters, and after a change.
-use Rattle.std.proofs.Common.{◌≡◌, ◌⊎◌, inl, inr, ℕ, zero, suc, ◌+◌, ◌<◌, Bool, true, false, ◌||◌, Option, Some, None, List, [], ◌∷◌, ◌++◌, length, refl, sym, ap, subst, ◌∙◌, arith}
+use Rattle.std.proofs.Common.{◌≡◌, ◌⊎◌, inl, inr, ℕ, zero, suc, ◌+◌, Bool, true, false, ◌==◌, Some, None, List, [], ◌∷◌, ◌++◌, refl, sym, ap, ◌∙◌, arith}
 use Rattle.std.specs.Prelude.{slice_set}
 use Rattle.std.specs.List.{list_any, slice_get}
-use Rattle.std.proofs.lemmas.Bool.{true≢false}
+use Rattle.std.proofs.lemmas.Bool.{ne_eqb, true≢false}
 use Rattle.group_rules.specs.Script.{Letter, letter_at, set_letter, total}
 use Rattle.world_wire.specs.Nexts.{is_open}
 use Rattle.world_wire.specs.Lanes.{IsIndex, LaneOf, lists}
+
+not_zero : (k : ℕ) → (suc k == 0) ≡ false
+not_zero k = ne_eqb (suc k) 0 (λ h. absurd (omega (arith, h)))
+
+letter_on : (x : Letter) (xs : List Letter) (k : ℕ) → letter_at (x ∷ xs) (suc (suc k)) ≡ letter_at xs (suc k)
+letter_on x xs k = let e = not_zero k in rw (e, letter_at) refl
+
+set_on : (x : Letter) (xs : List Letter) (k : ℕ) (f : Letter → Letter) → set_letter (x ∷ xs) (suc (suc k)) f ≡ x ∷ set_letter xs (suc k) f
+set_on x xs k f = let e = not_zero k in rw (e, set_letter) refl
 
 pub letter_zero : (xs : List Letter) → letter_at xs 0 ≡ None
 letter_zero [] = refl
@@ -14,21 +23,21 @@ letter_zero (x ∷ xs) = refl
 pub letter_get : (xs : List Letter) (k : ℕ) → letter_at xs (suc k) ≡ slice_get xs k
 letter_get [] k = refl
 letter_get (x ∷ xs) zero = refl
-letter_get (x ∷ xs) (suc k) = letter_get xs k
+letter_get (x ∷ xs) (suc k) = letter_on x xs k ∙ letter_get xs k
 
 pub set_none : (xs : List Letter) (k : ℕ) (f : Letter → Letter) → letter_at xs k ≡ None → xs ≡ set_letter xs k f
 set_none [] k f e = refl
 set_none (x ∷ xs) zero f e = refl
 set_none (x ∷ xs) (suc zero) f e = absurd (let h : Some x ≡ None = e in cc)
-set_none (x ∷ xs) (suc (suc k)) f e = ap (λ l. x ∷ l) (set_none xs (suc k) f e)
+set_none (x ∷ xs) (suc (suc k)) f e = ap (λ l. x ∷ l) (set_none xs (suc k) f (sym (letter_on x xs k) ∙ e)) ∙ sym (set_on x xs k f)
 
 pub set_there : (xs : List Letter) (k : ℕ) (f : Letter → Letter) (x : Letter) → slice_get xs k ≡ Some x → slice_set xs k (f x) ≡ set_letter xs (suc k) f
 set_there [] k f x e = absurd (let h : None ≡ Some x = e in cc)
 set_there (y ∷ ys) zero f x e = let same : y ≡ x = cc in ap (λ z. f z ∷ ys) (sym same)
-set_there (y ∷ ys) (suc k) f x e = ap (λ l. y ∷ l) (set_there ys k f x e)
+set_there (y ∷ ys) (suc k) f x e = ap (λ l. y ∷ l) (set_there ys k f x e) ∙ sym (set_on y ys k f)
 
 pub total_append : (xs ys : List Letter) → total (xs ++ ys) ≡ total xs + total ys
-total_append [] ys = refl
+total_append [] ys = omega arith
 total_append (x ∷ xs) ys = omega (arith, total_append xs ys)
 
 pub total_set : (xs : List Letter) (k : ℕ) (x y : Letter) → slice_get xs k ≡ Some x → y.size ≡ x.size → total (slice_set xs k y) ≡ total xs
@@ -65,6 +74,9 @@ closed_keeps ls xs k y c ix = record {
     go i z o (inl e) = ix.complete i z e o
     go i z o (inr e) = absurd (true≢false (sym o ∙ ap is_open (sym e) ∙ c))
 
-pub lost_is_closed : (d l : Bool) → l ≡ true → (d || l) ≡ true
-lost_is_closed true l e = refl
-lost_is_closed false l e = e
+pub lost_closed : (x : Letter) → is_open (record x { lost = true }) ≡ false
+lost_closed x = go x.delivered
+  where
+    go : (d : Bool) → is_open (record x { delivered = d; lost = true }) ≡ false
+    go true = refl
+    go false = refl

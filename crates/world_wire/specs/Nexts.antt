@@ -1,6 +1,6 @@
 -- Which letter comes next, where these incarnations run.
-use Rattle.std.specs.Prelude.{◌&&◌, ◌||◌, ◌==◌, ℕ, suc, Bool, true, false, List, [], ◌∷◌, Option, Some, None, nat_lt}
-use Rattle.std.specs.List.{list_any, find, slice_get}
+use Rattle.std.specs.Prelude.{◌&&◌, ◌||◌, ◌==◌, ℕ, Bool, true, false, List, [], ◌∷◌, Option, Some, None, nat_lt}
+use Rattle.std.specs.List.{list_any, slice_get}
 use Rattle.gr_ids.specs.Names.{has_inc}
 use Rattle.gr_ids.specs.declared.names.Inc.{Inc}
 use Rattle.group_rules.specs.Script.{Letter}

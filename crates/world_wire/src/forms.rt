@@ -181,7 +181,10 @@ impl SizedForm for Txns {
     ghost spelling = { λ form given. given_bytes given };
 
     fn size(&self, given: &Given) -> Result<u64, Memory> {
-        sum(counted_size(&given.body)?, sum(gtid_size(&given.gtid)?, 13)?)
+        sum(
+            counted_size(&given.body)?,
+            sum(gtid_size(&given.gtid)?, 13)?,
+        )
     }
 }
 

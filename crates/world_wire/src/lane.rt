@@ -89,7 +89,12 @@ impl Lane {
     }
 
     /// The least one that is next.
-    pub(crate) fn first_next(&self, letters: &[Letter], among: &[u8], running: &[Inc]) -> Option<usize>
+    pub(crate) fn first_next(
+        &self,
+        letters: &[Letter],
+        among: &[u8],
+        running: &[Inc],
+    ) -> Option<usize>
         ensures { result ≡ find (is_next_at among.now running.now letters.now) self.now.indexes }
     {
         for at in 0..self.indexes.len() {

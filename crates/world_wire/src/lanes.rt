@@ -46,7 +46,12 @@ impl Lanes {
     }
 
     /// These letters are sent, the first one with this index. Where memory is refused no letter is missing.
-    pub(crate) fn put_all(&mut self, alloc: Global, letters: &[Letter], first: usize) -> Result<(), Memory>
+    pub(crate) fn put_all(
+        &mut self,
+        alloc: Global,
+        letters: &[Letter],
+        first: usize,
+    ) -> Result<(), Memory>
         requires { first + length letters.now < 2 ^ 64 }
         ensures ok { OnOk result ((xs : List Sent) → length xs ≡ first → IsIndex self.old xs → IsIndex self.new (xs ++ letters.now)) }
         ensures err { OnErr result ((xs : List Sent) → length xs ≡ first → IsIndex self.old xs → IsIndex self.new xs) }
@@ -81,7 +86,12 @@ impl Lanes {
     }
 
     /// The least letter that is next. It looks at each lane that is served, and there at the letters in front.
-    pub(crate) fn first_next(&self, letters: &[Letter], among: &[u8], running: &[Inc]) -> Option<usize>
+    pub(crate) fn first_next(
+        &self,
+        letters: &[Letter],
+        among: &[u8],
+        running: &[Inc],
+    ) -> Option<usize>
         ensures { result ≡ next_in among.now running.now letters.now None self.now }
     {
         let mut least = None;

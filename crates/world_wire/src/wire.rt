@@ -6,6 +6,7 @@ ghost use Rattle.group_rules.specs.Script.{is_full, letter as letter_of, letter_
 ghost use Rattle.group_rules.specs.World.{World, runs};
 ghost use Rattle.world_wire.specs.Faults.{IsCause};
 
+use crate::amount::Amount;
 use crate::fault::WireFault;
 use crate::lanes::Lanes;
 use crate::letter::Letter;
@@ -16,12 +17,6 @@ use group_rules::WireLine;
 use paxos_forms::Message;
 use std::alloc::Global;
 use std::marker::Model;
-
-// The most messages: 2^20.
-const MOST_MESSAGES: u64 = 1 << 20;
-
-// The most bytes: 2^30.
-const MOST_BYTES: u64 = 1 << 30;
 
 /// Every message ever sent, the delivered and the lost ones too: the k-th one is the k-th message sent, from 1. At most 2^20 messages,
 /// and 2^30 bytes of their spellings.
@@ -82,16 +77,25 @@ impl Wire {
         ensures err { OnErr result (self.new ≡ self.old) }
     {
         let fresh = letters_of(self.alloc, messages.into_vec())?;
-        let bytes = sum(self.bytes, total_of(&fresh)?)?;
-        let messages = sum(self.letters.len() as u64, fresh.len() as u64)?;
-        if messages > MOST_MESSAGES {
-            return Err(WireFault::Full { messages, bytes });
+        let amount = self.amount_with(&fresh)?;
+        if amount.is_full() {
+            return Err(WireFault::Full {
+                messages: amount.messages,
+                bytes: amount.bytes,
+            });
         }
-        if bytes > MOST_BYTES {
-            return Err(WireFault::Full { messages, bytes });
-        }
-        self.append(fresh, bytes)?;
+        self.append(fresh, amount.bytes)?;
         Ok(())
+    }
+
+    // How much it would be with these letters too.
+    fn amount_with(&self, fresh: &[Letter]) -> Result<Amount, Memory>
+        ensures messages { IfOk result (λ a. a.messages ≡ length (self.now ++ fresh.now)) }
+        ensures bytes { IfOk result (λ a. a.bytes ≡ total (self.now ++ fresh.now)) }
+    {
+        let messages = sum(self.letters.len() as u64, fresh.len() as u64)?;
+        let bytes = sum(self.bytes, total_of(fresh)?)?;
+        Ok(Amount { messages, bytes })
     }
 
     fn append(&mut self, fresh: Vec<Letter>, bytes: u64) -> Result<(), Memory>
@@ -112,7 +116,8 @@ impl Wire {
     pub fn letter(&self, k: u64) -> Option<&Letter>
         ensures { option_copied result ≡ letter_at self.now k }
     {
-        self.letters.get(self.index_of(k)?)
+        let at = self.index_of(k)?;
+        Some(&self.letters[at])
     }
 
     /// The k-th message sent.
@@ -133,7 +138,11 @@ impl Wire {
             return;
         };
         self.letters[at].deliver();
-        self.lanes.drop_closed(&self.letters, self.letters[at].to(), self.letters[at].from());
+        self.lanes.drop_closed(
+            &self.letters,
+            self.letters[at].to(),
+            self.letters[at].from(),
+        );
     }
 
     /// The k-th message is lost; nothing changes where fewer were sent. Linear in the pairs, and in those that it drops from the index.
@@ -144,7 +153,11 @@ impl Wire {
             return;
         };
         self.letters[at].lose();
-        self.lanes.drop_closed(&self.letters, self.letters[at].to(), self.letters[at].from());
+        self.lanes.drop_closed(
+            &self.letters,
+            self.letters[at].to(),
+            self.letters[at].from(),
+        );
     }
 
     /// The least number of a letter that was never delivered and isn't lost, between these servers (none stand for all), to one of the

@@ -1,4 +1,4 @@
-use Rattle.std.proofs.Common.{◌≡◌, ◌<◌, ◌≤◌, ℕ, Bool, List, length, sym, ap, ◌∙◌, arith}
+use Rattle.std.proofs.Common.{◌<◌, ◌≤◌, length, sym, ap, arith}
 use Rattle.world_wire.specs.Nexts.{is_next_at}
 use Rattle.world_wire.proofs.Dropping.{find_here, find_on, find_none}
 use Rattle.world_wire.proofs.lane.Lane.first_next.Goals as goal
