@@ -10,6 +10,8 @@ mod letter;
 mod letters;
 mod sizes;
 mod sums;
+#[cfg(test)]
+mod tests;
 mod wire;
 
 pub use fault::WireFault;
