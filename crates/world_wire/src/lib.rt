@@ -1,0 +1,19 @@
+//! The messages that were ever sent in the world that a script plays in, and which of them may be delivered next.
+#![tactic(auto, using(crate::proofs::Lengths::lengths))]
+
+mod amount;
+mod fault;
+mod forms;
+mod lane;
+mod lanes;
+mod letter;
+mod letters;
+mod sizes;
+mod sums;
+#[cfg(test)]
+mod tests;
+mod wire;
+
+pub use fault::WireFault;
+pub use letter::Letter;
+pub use wire::Wire;
