@@ -3,8 +3,12 @@
 
 mod given_txn;
 mod joining;
+mod laws;
 mod reading;
 
 pub use given_txn::GivenTxn;
 pub use joining::Joining;
+pub use laws::{
+    gives_are_read_back, joinings_are_those_of_the_rules, joinings_tell_what_the_rules_tell,
+};
 pub use reading::{is_possible, read_given};
