@@ -1,7 +1,7 @@
 // Laws of joining, and of what a donor gave.
 ghost use Rattle.std.specs.Prelude.{◌≡◌, ◌∷◌, ℕ, [], false, is_some, length, List, map, nat_le, None, Option, Some, true};
 ghost use Rattle.gr_ids.specs.declared.levels.MemberState.{MemberState};
-ghost use Rattle.gr_ids.specs.declared.levels.MemberState.TheVariants.{Online};
+ghost use Rattle.gr_ids.specs.declared.levels.MemberState.TheVariants.{Online, Recovering};
 ghost use Rattle.gr_ids.specs.declared.names.Gtid.{Gtid};
 ghost use Rattle.gr_ids.specs.declared.names.Inc.{Inc};
 ghost use Rattle.gtid_sets.specs.Sets.{minus};
@@ -15,7 +15,7 @@ ghost use Rattle.txn_forms.specs.declared.body.Body.TheVariants.{Txn as Writes};
 ghost use Rattle.group_rules.specs.declared.marks.Cause.{Cause};
 ghost use Rattle.group_rules.specs.declared.marks.Reply.TheVariants.{Asked};
 ghost use Rattle.group_rules.specs.Events.{AskFails, Cert, Committed, Did, Enters, Entry, Founds, Is, Life, Replied, Restores, Setup, Starts, Stored, Took};
-ghost use Rattle.group_rules.specs.Life.{certs, entered, executed, is_up, state};
+ghost use Rattle.group_rules.specs.Life.{certs, executed, is_offline, is_recovering, state};
 ghost use Rattle.group_rules.specs.Member.{Member};
 ghost use Rattle.group_rules.specs.Recovery.{ask_wire, certs_given, failures, given_of, is_ask_due, is_awaited, is_possible, pending_ask};
 ghost use Rattle.group_rules.specs.Taking.{takes_slots};
@@ -25,18 +25,18 @@ ghost use Rattle.member_joining.specs.Joins.{JoinsBy, MayBe, is_of_joining};
 ghost use Rattle.member_joining.specs.Reading.{certs_read};
 
 /// Where an incarnation stands on its way into the group is what the rules read from its history: from its founding or its start on, with
-/// its one Welcome, with each ask, failure and Give, with an entry that is taken where slots are taken, a commit of something that is
+/// its Welcome, by which an OFFLINE one is RECOVERING, with each ask, failure and Give, with an entry that is taken where slots are taken, a commit of something that is
 /// certified, and a state that may be taken. What else happens changes nothing.
 pub fn joinings_are_those_of_the_rules()
     ensures founded { JoinsBy (Founds ∷ []) None }
     ensures leads { (c : Cause) → JoinsBy (Is Online c ∷ Founds ∷ []) None }
     ensures started { (y : Stored) → JoinsBy (Starts y ∷ []) None }
-    ensures welcomed { (l : Life) (w : Welcome) (x : Option Asking) → JoinsBy l x → entered l ≡ None → certs l ≡ [] → is_up (state l) ≡ false
-        → JoinsBy (Enters w ∷ l) (welcomed (executed l) w.place) }
+    ensures welcomed { (l : Life) (w : Welcome) (c : Cause) (x : Option Asking) → JoinsBy l x → is_offline (state l) ≡ true
+        → JoinsBy (Is Recovering c ∷ Enters w ∷ l) (welcomed (executed l) w.place) }
     ensures asked { (l : Life) (d : Inc) (x : Option Asking) → JoinsBy l x → may_ask x ≡ true → JoinsBy (Replied (Asked d) ∷ l) (asked d x) }
     ensures failed { (l : Life) (x : Option Asking) → JoinsBy l x → is_some (pending_ask l) ≡ true → JoinsBy (AskFails ∷ l) (failed x) }
-    ensures given { (l : Life) (g : Give) (cs : List Cert) (x : Option Asking) → JoinsBy l x → is_some (pending_ask l) ≡ true
-        → JoinsBy (Restores g cs ∷ l) (given x) }
+    ensures given { (l : Life) (g : Give) (cs : List Cert) (x : Option Asking) → JoinsBy l x → is_recovering (state l) ≡ true
+        → is_some (pending_ask l) ≡ true → JoinsBy (Restores g cs ∷ l) (given x) }
     ensures taken { (l : Life) (e : Entry) (x : Option Asking) → JoinsBy l x → takes_slots l ≡ true → JoinsBy (Took e ∷ l) x }
     ensures committed { (l : Life) (g : Gtid) (x : Option Asking) → JoinsBy l x → (certs l ≡ [] → ⊥) → JoinsBy (Committed g ∷ l) x }
     ensures stated { (l : Life) (s : MemberState) (c : Cause) (x : Option Asking) → JoinsBy l x → MayBe l s → JoinsBy (Is s c ∷ l) x }
