@@ -1,0 +1,4 @@
+pub mod Asking
+pub mod Inside
+pub mod Joins
+pub mod Reading
