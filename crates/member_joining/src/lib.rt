@@ -5,6 +5,8 @@ mod given_txn;
 mod joining;
 mod laws;
 mod reading;
+#[cfg(test)]
+mod tests;
 
 pub use given_txn::GivenTxn;
 pub use joining::Joining;
