@@ -2,7 +2,9 @@ ghost use Rattle.std.specs.Prelude.{◌≡◌, ◌≤◌, IfOk, length};
 ghost use Rattle.key_items.specs.Spelling.{IsItem};
 
 use crate::MemberTables;
-use gr_ids::{Blob, Gtid, Inc, Level, Memory, Mode, Pos, Sequence, SessionId, ValueId};
+use gr_ids::{
+    Blob, Gtid, Inc, Level, MemberState, Memory, Mode, Pos, Sequence, SessionId, ValueId,
+};
 use group_rules::{Answer, Holder};
 use key_items::{Change, ChangeKind, Item, WriteSet};
 use local_sessions::CommitStep;
@@ -114,6 +116,22 @@ fn a_commit_is_read_and_a_done_place_kills(rt: HostRuntime) -> Result<(), Fail> 
     assert_eq!(rt; row(&rt, alloc, &mut tables, 2)?, 1);
     open(&rt, &mut tables, 4)?;
     assert_eq!(rt; row(&rt, alloc, &mut tables, 4)?, 3);
+    Ok(())
+}
+
+#[test]
+fn a_server_keeps_its_rows(rt: HostRuntime) -> Result<(), Fail> {
+    let alloc = rt.alloc();
+    let mut tables = MemberTables::founded(alloc, ME, Mode::Multi, None);
+    let _ = tables.commit(Pos(1), gtid(1), None, write(alloc, b"1")?)?;
+    let kept = tables.into_kept();
+    let mut next = MemberTables::joining(alloc, ME, kept.store, kept.executed);
+    next.entered(Mode::Single, Some(ME));
+    next.stated(MemberState::Recovering);
+    open(&rt, &mut next, 1)?;
+    assert_eq!(rt; row(&rt, alloc, &mut next, 1)?, 1);
+    next.taken(Mode::Multi, None);
+    assert_eq!(rt; next.tables().primary, None);
     Ok(())
 }
 
