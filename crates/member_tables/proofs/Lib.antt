@@ -12,3 +12,4 @@ pub mod Beginning
 pub mod Fallen
 pub mod Called
 pub mod Asked
+pub mod Servers

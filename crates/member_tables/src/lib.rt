@@ -5,6 +5,7 @@ mod begins;
 mod calls;
 mod commits;
 mod entries;
+mod keeping;
 mod laws;
 mod leaving;
 mod places;
@@ -12,5 +13,6 @@ mod tables;
 #[cfg(test)]
 mod tests;
 
+pub use keeping::KeptRows;
 pub use laws::tables_stand_for_their_member;
 pub use tables::MemberTables;

