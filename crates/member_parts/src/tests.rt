@@ -46,19 +46,19 @@ fn take(rt: &impl Abort, alloc: Global, parts: &mut MemberParts, what: What) -> 
     Ok(())
 }
 
-#[test]
-fn an_add_is_watched_and_served(rt: HostRuntime) -> Result<(), Fail> {
-    let alloc = rt.alloc();
-    let me = joiner(1).inc;
-    let mut parts = MemberParts::founded(alloc, me, &[joiner(1), joiner(2)], Mode::Multi, LIMITS)?;
-    take(&rt, alloc, &mut parts, What::Body(Blob::of(alloc, INSERT)?))?;
-    take(&rt, alloc, &mut parts, What::Add(joiner(3)))?;
+// Five ticks without a message, and then one.
+fn listen(rt: &impl Abort, parts: &mut MemberParts, to: Inc) -> Result<(), Fail> {
     for _ in 0..5 {
         parts.tick();
     }
-    assert!(rt; parts.watch().suspects(joiner(3).inc));
-    parts.heard(joiner(3).inc);
-    assert!(rt; !parts.watch().suspects(joiner(3).inc));
+    assert!(rt; parts.watch().suspects(to));
+    parts.heard(to);
+    assert!(rt; !parts.watch().suspects(to));
+    Ok(())
+}
+
+// What one that has nothing is given of the Add at place 2.
+fn serve(rt: &impl Abort, alloc: Global, parts: &MemberParts) -> Result<(), Fail> {
     let ask = Ask {
         place: Pos(2),
         executed: GtidSet::new(alloc),
@@ -66,7 +66,23 @@ fn an_add_is_watched_and_served(rt: HostRuntime) -> Result<(), Fail> {
     let give = parts.give(alloc, &ask)?;
     assert_eq!(rt; give.txns.as_slice().len(), 1);
     assert_eq!(rt; give.blocks, 1);
-    take(&rt, alloc, &mut parts, What::Remove(joiner(2).inc))?;
+    Ok(())
+}
+
+fn live(rt: &impl Abort, alloc: Global, parts: &mut MemberParts) -> Result<(), Fail> {
+    take(rt, alloc, parts, What::Body(Blob::of(alloc, INSERT)?))?;
+    take(rt, alloc, parts, What::Add(joiner(3)))?;
+    listen(rt, parts, joiner(3).inc)?;
+    serve(rt, alloc, parts)?;
+    take(rt, alloc, parts, What::Remove(joiner(2).inc))?;
     assert!(rt; !parts.watch().suspects(joiner(2).inc));
     Ok(())
+}
+
+#[test]
+fn an_add_is_watched_and_served(rt: HostRuntime) -> Result<(), Fail> {
+    let alloc = rt.alloc();
+    let me = joiner(1).inc;
+    let mut parts = MemberParts::founded(alloc, me, &[joiner(1), joiner(2)], Mode::Multi, LIMITS)?;
+    live(&rt, alloc, &mut parts)
 }
