@@ -8,14 +8,17 @@ const ONE: Inc = Inc {
     server: 1,
     start: 1,
 };
+
 const TWO: Inc = Inc {
     server: 2,
     start: 1,
 };
+
 const THREE: Inc = Inc {
     server: 3,
     start: 1,
 };
+
 const AGAIN: Inc = Inc {
     server: 1,
     start: 2,
@@ -23,7 +26,13 @@ const AGAIN: Inc = Inc {
 
 // Five letters, of which the first is delivered and the third is lost.
 fn five(alloc: Global) -> Result<Option<Wire>, Memory> {
-    let pairs = [(ONE, TWO), (TWO, ONE), (ONE, THREE), (ONE, TWO), (THREE, AGAIN)];
+    let pairs = [
+        (ONE, TWO),
+        (TWO, ONE),
+        (ONE, THREE),
+        (ONE, TWO),
+        (THREE, AGAIN),
+    ];
     let mut messages = Vec::new(alloc);
     for (from, to) in pairs {
         messages.push(Message {
@@ -70,8 +79,14 @@ fn letters_are_kept_and_shown(rt: HostRuntime) -> Result<(), Fail> {
     assert_eq!(rt; wire.sent(), 5);
     assert_eq!(rt; wire.bytes(), 95);
     assert!(rt; wire.letter(0).is_none() && wire.letter(6).is_none() && wire.message(6).is_none());
-    assert!(rt; wire.letter(1).is_some_and(|x| x.is_delivered() && !x.is_lost() && x.size() == 19));
-    assert!(rt; wire.letter(3).is_some_and(|x| x.is_lost() && !x.is_delivered()));
+    assert!(rt;
+        wire.letter(1)
+            .is_some_and(|x| x.is_delivered() && !x.is_lost() && x.size() == 19)
+    );
+    assert!(rt;
+        wire.letter(3)
+            .is_some_and(|x| x.is_lost() && !x.is_delivered())
+    );
     assert!(rt; wire.message(5).is_some_and(|m| m.to == AGAIN));
     let lines = wire.lines(rt.alloc())?.into_vec();
     let shown: Vec<u64> = lines.iter().map(|line| line.number).collect(rt.alloc())?;
