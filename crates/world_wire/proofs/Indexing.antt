@@ -1,13 +1,13 @@
 -- The index after a change of one lane, and after one more letter.
 use Rattle.std.proofs.Common.{◌≡◌, ◌⊎◌, inl, inr, ℕ, ◌<◌, ◌≤◌, true, nat_lt, Some, List, [], ◌∷◌, ◌++◌, length, sym, ap, subst, ◌∙◌, arith}
 use Rattle.std.specs.Prelude.{slice_set}
-use Rattle.std.specs.List.{filter, list_any, slice_get}
-use Rattle.std.proofs.lemmas.Bool.{and_from, and_parts, lt-ltb}
+use Rattle.std.specs.List.{filter, list_any, remove, slice_get}
+use Rattle.std.proofs.lemmas.Bool.{and_from, and_parts, and_right, lt-ltb}
 use Rattle.std.proofs.lemmas.Option.{slice_get_within}
 use Rattle.group_rules.specs.Script.{Letter}
 use Rattle.world_wire.specs.Nexts.{is_open}
 use Rattle.world_wire.specs.Lanes.{IsIndex, LaneOf, cut_at, dropped, dropped_in, has_index, is_between, lists, opens, put_at, rises}
-use Rattle.world_wire.proofs.Members.{all_at, all_pass, all_set, any_set, any_there, dropped_has, dropped_rises, filter_has, filter_rises, get_push, push_has, push_has_it, push_rises}
+use Rattle.world_wire.proofs.Members.{all_at, all_pass, all_removed, all_set, any_removed, any_set, any_there, dropped_has, dropped_rises, filter_has, filter_rises, get_push, push_has, push_has_it, push_rises}
 
 pub lane_rises : (ls : List LaneOf) (xs : List Letter) (at : ℕ) (l : LaneOf) → slice_get ls at ≡ Some l → IsIndex ls xs → rises l.indexes ≡ true
 lane_rises ls xs at l g ix = all_at (λ m. rises m.indexes) ls at l g ix.rising
@@ -57,3 +57,10 @@ pub drop_keeps : (ls : List LaneOf) (xs : List Letter) (at : ℕ) (l : LaneOf) �
 drop_keeps ls xs at l g ix =
     changed ls xs at l (dropped xs l.indexes) g (dropped_rises xs l.indexes (lane_rises ls xs at l g ix))
     (λ i x e o h. dropped_has xs l.indexes i (ap opens e ∙ o) h) ix
+
+-- an empty lane lists no letter
+pub empty_goes : (ls : List LaneOf) (xs : List Letter) (at : ℕ) (l : LaneOf) → slice_get ls at ≡ Some l → l.indexes ≡ [] → IsIndex ls xs → IsIndex (remove ls at) xs
+empty_goes ls xs at l g n ix = record {
+  rising = all_removed (λ m. rises m.indexes) ls at ix.rising;
+  complete = λ i x e o. any_removed (lists i x) ls at l g (and_right _ _ (ap (λ is. has_index is i) n)) (ix.complete i x e o);
+}

@@ -1,8 +1,8 @@
 -- What a list of indexes has, and that it rises, after a filter, one more, and a drop at the front; a test of a list in which one changed.
 use Rattle.std.proofs.Common.{◌≡◌, ◌⊎◌, inl, inr, ℕ, zero, suc, Bool, true, false, ◌==◌, nat_lt, Some, None, List, [], ◌∷◌, ◌++◌, refl, sym, ap, ◌∙◌, length, arith}
 use Rattle.std.specs.Prelude.{slice_set}
-use Rattle.std.specs.List.{filter, list_all, list_any, slice_get}
-use Rattle.std.proofs.lemmas.Bool.{and_from, and_parts, or_cases, or_left, or_right, eqb-true, eq-eqb, true≢false}
+use Rattle.std.specs.List.{filter, list_all, list_any, remove, slice_get}
+use Rattle.std.proofs.lemmas.Bool.{and_from, and_parts, or_cases, or_left, or_right, eqb-true, eq-eqb, true≢false, false≢true}
 use Rattle.std.proofs.lemmas.List.Folds.{list_any-append, list_all-append}
 use Rattle.group_rules.specs.Script.{Letter}
 use Rattle.world_wire.specs.Lanes.{dropped, has_index, opens, rises}
@@ -125,3 +125,24 @@ get_last [] x zero e = refl
 get_last [] x (suc k) e = absurd (omega (arith, e))
 get_last (z ∷ zs) x zero e = absurd (omega (arith, e))
 get_last (z ∷ zs) x (suc k) e = get_last zs x k (omega (arith, e))
+
+-- ---- one removed
+
+pub all_removed : {A : Type 0} (p : A → Bool) (xs : List A) (at : ℕ) → list_all p xs ≡ true → list_all p (remove xs at) ≡ true
+all_removed p [] zero h = refl
+all_removed p [] (suc at) h = refl
+all_removed p (y ∷ ys) zero h = (and_parts (p y) (list_all p ys) h).1
+all_removed p (y ∷ ys) (suc at) h = let parts = and_parts (p y) (list_all p ys) h in and_from _ _ parts.0 (all_removed p ys at parts.1)
+
+pub any_removed : {A : Type 0} (p : A → Bool) (xs : List A) (at : ℕ) (x : A) → slice_get xs at ≡ Some x → p x ≡ false → list_any p xs ≡ true → list_any p (remove xs at) ≡ true
+any_removed p [] at x g n h = absurd (false≢true h)
+any_removed p (y ∷ ys) zero x g n h = go (or_cases (p y) (list_any p ys) h)
+  where
+    go : (p y ≡ true) ⊎ (list_any p ys ≡ true) → list_any p ys ≡ true
+    go (inl e) = let same : y ≡ x = cc in absurd (true≢false (sym e ∙ (ap p same ∙ n)))
+    go (inr r) = r
+any_removed p (y ∷ ys) (suc at) x g n h = go (or_cases (p y) (list_any p ys) h) (any_removed p ys at x g n)
+  where
+    go : (p y ≡ true) ⊎ (list_any p ys ≡ true) → (list_any p ys ≡ true → list_any p (remove ys at) ≡ true) → list_any p (remove (y ∷ ys) (suc at)) ≡ true
+    go (inl e) k = or_left _ _ e
+    go (inr r) k = or_right _ _ (k r)

@@ -1,5 +1,5 @@
 // The letters of one pair that may still be delivered.
-ghost use Rattle.std.specs.Prelude.{◌≡◌, [], not, true, nat_lt, OnErr, OnOk};
+ghost use Rattle.std.specs.Prelude.{◌≡◌, ◌↔◌, [], IsTrue, not, true, nat_lt, OnErr, OnOk};
 ghost use Rattle.std.specs.List.{find, list_all, slice_get};
 ghost use Rattle.world_wire.specs.Lanes.{cut_at, dropped_in, is_between as is_lane_between, opens, put_at, rises};
 ghost use Rattle.world_wire.specs.Nexts.{is_next_at, serves as serves_between};
@@ -47,6 +47,12 @@ impl Lane {
         ensures { result ≡ serves_between among.now running.now self.now.from self.now.to }
     {
         serves(among, running, self.from, self.to)
+    }
+
+    pub(crate) fn is_empty(&self) -> bool
+        ensures { IsTrue result ↔ (self.now.indexes ≡ []) }
+    {
+        self.indexes.is_empty()
     }
 
     /// The letter comes behind the others. What is left of letters with its index or a higher one, which weren't sent, goes.

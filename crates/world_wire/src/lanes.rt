@@ -82,6 +82,16 @@ impl Lanes {
         let at = index_of(&self.lanes, to, from);
         if at < self.lanes.len() {
             self.lanes[at].drop_closed(letters);
+            self.drop_empty(at);
+        }
+    }
+
+    // The lane with this index goes, where it is empty.
+    fn drop_empty(&mut self, at: usize)
+        ensures { (xs : List Sent) → IsIndex self.old xs → IsIndex self.new xs }
+    {
+        if at < self.lanes.len() && self.lanes[at].is_empty() {
+            self.lanes.remove(at);
         }
     }
 
