@@ -99,46 +99,70 @@ fn finish(alloc: Global, tables: &mut MemberTables) -> Result<(), Memory> {
     tables.done(Pos(2), gtid(2), &items)
 }
 
+// The commit of an own transaction is answered.
+fn commit(rt: &impl Abort, alloc: Global, tables: &mut MemberTables) -> Result<(), Fail> {
+    open(rt, tables, 1)?;
+    ask(rt, alloc, tables)?;
+    let told = tables.commit(Pos(1), gtid(1), Some(id(1)), write(alloc, b"1")?)?;
+    assert!(rt; matches!(told, Some(_)));
+    Ok(())
+}
+
+// A joiner with the rows of its server reads them.
+fn join(rt: &impl Abort, alloc: Global, next: &mut MemberTables) -> Result<(), Fail> {
+    next.entered(Mode::Single, Some(ME));
+    next.stated(MemberState::Recovering);
+    next.taken(Mode::Multi, None);
+    open(rt, next, 1)?;
+    assert_eq!(rt; row(rt, alloc, next, 1)?, 1);
+    Ok(())
+}
+
+// A place that is done kills.
+fn kill(rt: &impl Abort, alloc: Global, tables: &mut MemberTables) -> Result<(), Fail> {
+    open(rt, tables, 1)?;
+    let _ = tables.insert(SessionId(1), item(alloc)?, Blob::of(alloc, b"1")?)?;
+    finish(alloc, tables)?;
+    let answer = tables.rollback(SessionId(1))?;
+    assert!(rt; matches!(answer, Answer::Killed(_)));
+    Ok(())
+}
+
+// A conflict is answered, a begin times out, and one is told of a fall.
+fn tell(rt: &impl Abort, alloc: Global, tables: &mut MemberTables) -> Result<(), Fail> {
+    open(rt, tables, 1)?;
+    ask(rt, alloc, tables)?;
+    let told = tables.conflict(id(1), gtid(1));
+    assert!(rt; matches!(told, Some(_)));
+    begin(rt, tables, 1)?;
+    begin(rt, tables, 2)?;
+    assert!(rt; tables.is_held(SessionId(2)));
+    let _ = tables.timed_out(SessionId(2), 3);
+    let answers = tables.fall(&[])?;
+    assert_eq!(rt; answers.as_slice().len(), 1);
+    Ok(())
+}
+
 #[test]
 fn a_commit_is_answered_and_kept(rt: HostRuntime) -> Result<(), Fail> {
     let alloc = rt.alloc();
     let mut tables = MemberTables::founded(alloc, ME, Mode::Multi, None);
-    open(&rt, &mut tables, 1)?;
-    ask(&rt, alloc, &mut tables)?;
-    let told = tables.commit(Pos(1), gtid(1), Some(id(1)), write(alloc, b"1")?)?;
-    assert!(rt; matches!(told, Some(_)));
+    commit(&rt, alloc, &mut tables)?;
     let kept = tables.into_kept();
     let mut next = MemberTables::joining(alloc, ME, kept.store, kept.executed);
-    next.entered(Mode::Single, Some(ME));
-    next.stated(MemberState::Recovering);
-    next.taken(Mode::Multi, None);
-    open(&rt, &mut next, 1)?;
-    assert_eq!(rt; row(&rt, alloc, &mut next, 1)?, 1);
-    Ok(())
+    join(&rt, alloc, &mut next)
 }
 
 #[test]
 fn a_done_place_kills(rt: HostRuntime) -> Result<(), Fail> {
     let alloc = rt.alloc();
     let mut tables = MemberTables::founded(alloc, ME, Mode::Multi, None);
-    open(&rt, &mut tables, 1)?;
-    let _ = tables.insert(SessionId(1), item(alloc)?, Blob::of(alloc, b"1")?)?;
-    finish(alloc, &mut tables)?;
-    assert!(rt; matches!(tables.rollback(SessionId(1))?, Answer::Killed(_)));
-    Ok(())
+    kill(&rt, alloc, &mut tables)
 }
 
 #[test]
 fn those_that_wait_are_told(rt: HostRuntime) -> Result<(), Fail> {
     let alloc = rt.alloc();
     let mut tables = MemberTables::founded(alloc, ME, Mode::Multi, None);
-    open(&rt, &mut tables, 1)?;
-    ask(&rt, alloc, &mut tables)?;
-    assert!(rt; matches!(tables.conflict(id(1), gtid(1)), Some(_)));
-    begin(&rt, &mut tables, 1)?;
-    begin(&rt, &mut tables, 2)?;
-    assert!(rt; tables.is_held(SessionId(2)));
-    let _ = tables.timed_out(SessionId(2), 3);
-    assert_eq!(rt; tables.fall(&[])?.as_slice().len(), 1);
-    Ok(())
+    tell(&rt, alloc, &mut tables)
 }
