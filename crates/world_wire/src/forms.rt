@@ -1,4 +1,6 @@
 // How long the elements of the lists in messages are.
+#![tactic(auto, using(crate::proofs::Lengths::lengths))]
+
 ghost use Rattle.std.specs.Prelude.{◌≡◌, ◌+◌, length, IfOk};
 ghost use Rattle.byte_forms.specs.Numbers.{number};
 ghost use Rattle.name_forms.specs.Gtids.{gtid_bytes};

@@ -1,5 +1,5 @@
 //! The messages that were ever sent in the world that a script plays in, and which of them may be delivered next.
-#![tactic(auto, using(crate::proofs::Lengths::lengths))]
+#![tactic(auto)]
 
 mod amount;
 mod fault;

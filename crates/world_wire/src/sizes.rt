@@ -1,4 +1,6 @@
 // How many bytes a message is spelled in, counted without spelling it.
+#![tactic(auto, using(crate::proofs::Lengths::lengths))]
+
 ghost use Rattle.std.specs.Prelude.{◌≡◌, length, IfOk};
 ghost use Rattle.paxos_forms.specs.Gives.{ask_bytes, give_bytes};
 ghost use Rattle.paxos_forms.specs.GiveParts.{lacks_bytes, state_bytes};

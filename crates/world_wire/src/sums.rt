@@ -1,4 +1,6 @@
 // Numbers of bytes, added up.
+#![tactic(auto, using(crate::proofs::Lengths::lengths))]
+
 ghost use Rattle.std.specs.Prelude.{◌≡◌, ◌+◌, length, IfOk};
 ghost use Rattle.std.specs.List.{flat_map};
 ghost use Rattle.byte_forms.specs.Lists.{several};
