@@ -14,7 +14,7 @@ ghost use Rattle.group_rules.specs.Life.{executed as executed_by, last_made};
 ghost use Rattle.group_rules.specs.Member.{Member as AnyMember};
 ghost use Rattle.group_rules.specs.Steps.{work};
 ghost use Rattle.apply_queue.specs.Following.{waiting_at, with_result};
-ghost use Rattle.apply_queue.specs.Queues.{first_waiting};
+ghost use Rattle.apply_queue.specs.Queues.{first_waiting, handed_out};
 ghost use Rattle.member_parts.specs.Committing.{HasNumber, IsWritten, MayGo, prepared_in};
 ghost use Rattle.member_parts.specs.Standing.{StandsFor};
 
@@ -35,7 +35,8 @@ impl MemberParts {
     /// Hands out a copy of the least queued place that waits for a worker; None where there is none. Linear in the bytes, and in the
     /// places that were done before they were handed out; nothing changes where memory is refused.
     pub fn next_work(&mut self) -> Result<Option<Work>, Memory>
-        ensures handed { IfOk result (λ o. MatchOption o (first_waiting self.old.remotes.queue ≡ None) (λ w. first_waiting self.old.remotes.queue ≡ Some (waiting_at w.place w.gtid w.body))) }
+        ensures handed { IfOk result (λ o. MatchOption o ((first_waiting self.old.remotes.queue ≡ None) × (self.new ≡ self.old))
+            (λ w. (first_waiting self.old.remotes.queue ≡ Some (waiting_at w.place w.gtid w.body)) × (self.new ≡ record self.old { remotes = record self.old.remotes { queue = handed_out self.old.remotes.queue } }))) }
         ensures stands { OnOk result ((s : Setup) (me : Member) (l : Life) → StandsFor s me l self.old → StandsFor s me l self.new) }
         ensures err { OnErr result (self.new ≡ self.old) }
     {
