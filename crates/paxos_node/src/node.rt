@@ -94,6 +94,34 @@ impl Node {
         }
     }
 
+    /// The incarnation whose node it is.
+    pub fn me(&self) -> Inc
+        ensures { result ≡ self.now.me }
+    {
+        self.me
+    }
+
+    /// The horizon of its group: how many slots after a membership change it rules.
+    pub fn horizon(&self) -> u16
+        ensures { result ≡ self.now.horizon }
+    {
+        self.horizon
+    }
+
+    /// The own values that aren't kept yet, in the order made.
+    pub fn own(&self) -> &[Value]
+        ensures { result.now ≡ self.now.own }
+    {
+        &self.own
+    }
+
+    /// The ballot that the node has promised; its round is 0 at a joiner that has promised nothing. Takes constant time.
+    pub fn promise(&self) -> Ballot
+        ensures { result ≡ self.now.acceptor.promise }
+    {
+        self.acceptor.promised()
+    }
+
     /// What the node has promised. None exactly at a joiner that has promised nothing. Takes constant time.
     pub fn promised(&self) -> Option<Ballot>
         ensures { result ≡ promised self.now }

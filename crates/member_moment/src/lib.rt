@@ -1,0 +1,18 @@
+//! A member in the midst of a step: its node and its parts together, and each small act of a step.
+#![tactic(auto)]
+
+mod arriving;
+mod beginning;
+mod calling;
+mod committing;
+mod ending;
+mod joining;
+mod moment;
+mod ordering;
+mod owning;
+mod saying;
+mod taking;
+mod working;
+
+pub use moment::{Left, Moment};
+pub use taking::Caused;

@@ -1,0 +1,45 @@
+// The node of a member, and the messages that it sends itself.
+ghost use Rattle.std.specs.Prelude.{◌≡◌, ◌++◌, false, IfOk, OnOk};
+ghost use Rattle.gr_ids.specs.declared.memory.Memory.{Memory};
+ghost use Rattle.paxos_forms.specs.declared.message.Message.{Message as AnyMessage};
+ghost use Rattle.paxos_forms.specs.Messages.{IsMessage};
+ghost use Rattle.paxos_ranges.specs.Ranges.{IsGiven};
+ghost use Rattle.group_rules.specs.Member.{Member, at_node as at_node_of, send as sends};
+ghost use Rattle.node_rules.specs.Node.{message};
+ghost use Rattle.member_moment.specs.Doing.{Does, DoesIf};
+ghost use Rattle.member_moment.specs.Ordering.{is_welcome};
+
+use crate::moment::Moment;
+use gr_ids::{Inc, Memory};
+use node_rules::PaxosEvent;
+use paxos_forms::{Message, Wire};
+
+impl Moment {
+    /// An event of its node, other than a Welcome. Its cost is the node's.
+    pub fn at_node(&mut self, event: &PaxosEvent) -> Result<(), Memory>
+        requires given { IsGiven event.now }
+        requires other { is_welcome event.now ≡ false }
+        ensures { OnOk result (Does (at_node_of event.now) self.old self.new) }
+    {
+        let sent = self.node.step(self.alloc, event)?;
+        send_all(&mut self.sent, sent)
+    }
+
+    /// A message of its own, which its form spells.
+    pub fn send(&mut self, to: Inc, wire: Wire) -> Result<(), Memory>
+        ensures { OnOk result (DoesIf (λ a. IsMessage (message a.node to wire)) (sends to wire) self.old self.new) }
+    {
+        let from = self.node.me();
+        self.sent.push(Message { from, to, wire })?;
+        Ok(())
+    }
+}
+
+fn send_all(to: &mut Vec<Message>, more: Vec<Message>) -> Result<(), Memory>
+    ensures { OnOk result (to.new.items ≡ to.old.items ++ more.items) }
+{
+    for message in more {
+        to.push(message)?;
+    }
+    Ok(())
+}
