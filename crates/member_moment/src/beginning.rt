@@ -26,8 +26,7 @@ impl Moment {
             return Ok(());
         }
         let answer = self.tables.begun(released.session, released.sync)?;
-        self.marks
-            .push(Mark::Answered(released.session, answer))?;
+        self.marks.push(Mark::Answered(released.session, answer))?;
         Ok(())
     }
 }
