@@ -1,1 +1,4 @@
 pub mod Doing
+pub mod Pushed
+pub mod Told
+pub mod Replies
