@@ -8,7 +8,7 @@ ghost use Rattle.group_rules.specs.Events.{Life};
 ghost use Rattle.group_rules.specs.Member.{Member, at_node as at_node_of, send as sends};
 ghost use Rattle.node_rules.specs.Node.{message};
 ghost use Rattle.member_moment.specs.Doing.{Does, DoesIf};
-ghost use Rattle.member_moment.specs.Ordering.{is_welcome};
+ghost use Rattle.member_ranges.specs.Hearing.{is_welcome};
 ghost use Rattle.member_moment.specs.Standing.{RestFor};
 
 use crate::moment::Moment;
