@@ -2,3 +2,4 @@ pub mod Doing
 pub mod Pushed
 pub mod Told
 pub mod Replies
+pub mod Ordered

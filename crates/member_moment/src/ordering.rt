@@ -13,6 +13,7 @@ ghost use Rattle.member_moment.specs.Standing.{RestFor};
 
 use crate::moment::Moment;
 use gr_ids::{Inc, Memory};
+use member_ranges::members_stay_in_range;
 use node_rules::PaxosEvent;
 use paxos_forms::{Message, Wire};
 
@@ -25,6 +26,7 @@ impl Moment {
         ensures others { self.new ≡ record self.old { node = self.new.node; sent = self.new.sent } }
         ensures does { OnOk result (Does (at_node_of event.now) self.old self.new) }
     {
+        members_stay_in_range();
         let sent = self.node.step(self.alloc, event)?;
         send_all(&mut self.sent, sent)
     }

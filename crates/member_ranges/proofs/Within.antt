@@ -1,37 +1,34 @@
 -- What changes nothing of the ranges.
-use Rattle.std.proofs.Common.{◌≡◌, true, false, refl}
-use Rattle.gr_ids.specs.declared.levels.MemberState.TheVariants.{Error, Offline, Online, Recovering}
-use Rattle.group_rules.specs.Events.{AskFails, AsksCommit, Answered, Begun, Called, Came, Changed, Committed, Did, Done, Ends, Enters, Founds, Gave, Is, Made, Replied, Restores, Skips, Starts, Took}
-use Rattle.group_rules.specs.Member.{Member, push}
+use Rattle.std.proofs.Common.{◌≡◌, ◌&&◌, Bool, true, false, refl}
+use Rattle.slot_values.specs.declared.kept.Kept.{Kept}
+use Rattle.slot_values.specs.declared.kept.Kept.TheVariants.{At as KeptAt, Skipped as IsSkipped}
+use Rattle.node_rules.specs.Node.{Node}
+use Rattle.node_rules.specs.Taking.{take}
+use Rattle.node_rules.specs.declared.event.PaxosEvent.TheVariants.{Heard}
+use Rattle.node_rules.specs.declared.taken.Taken.{Taken}
+use Rattle.paxos_forms.specs.declared.message.Message.{Message}
+use Rattle.paxos_forms.specs.declared.welcome.Welcome.{Welcome}
+use Rattle.paxos_ranges.specs.Ranges.{IsInRange}
+use Rattle.group_rules.specs.Events.{Did, Enters, Is}
+use Rattle.group_rules.specs.Life.{is_offline, state}
+use Rattle.group_rules.specs.Names.{Recovering}
+use Rattle.group_rules.specs.declared.marks.Cause.TheVariants.{Welcomed}
+use Rattle.node_rules.specs.Welcoming.{is_in_order, is_for}
+use Rattle.group_rules.specs.Member.{Member, at_node, by_node, push}
+use Rattle.group_rules.specs.Welcomes.{hear_welcome}
 use Rattle.member_ranges.specs.Ranges.{InRange, is_of_range}
-
-false_true : {X : Type 0} → false ≡ true → X
-false_true h = elim h [ ]
-
-true_false : {X : Type 0} → true ≡ false → X
-true_false h = elim h [ ]
+use Rattle.member_ranges.specs.Taking.{entered_by}
 
 pub said : (d : Did) (a : Member) → is_of_range d ≡ false → InRange a → InRange (push d a)
-said (Came e) a h r = record { setup = r.setup; joiner = r.joiner; contact = r.contact; me = r.me; horizon = r.horizon; node = r.node; log = r.log; shown = λ k w t. record { place = (r.shown k w t).place; seats = (r.shown k w t).seats; view = (r.shown k w t).view }; outside = r.outside; offline = r.offline; welcomed = r.welcomed; waits = λ g w t. record { place = (r.waits g w t).place; down = (r.waits g w t).down }; life = (tt, r.life) }
-said (Made v b) a h r = record { setup = r.setup; joiner = r.joiner; contact = r.contact; me = r.me; horizon = r.horizon; node = r.node; log = r.log; shown = λ k w t. record { place = (r.shown k w t).place; seats = (r.shown k w t).seats; view = (r.shown k w t).view }; outside = r.outside; offline = r.offline; welcomed = r.welcomed; waits = λ g w t. record { place = (r.waits g w t).place; down = (r.waits g w t).down }; life = (tt, r.life) }
-said (Skips t v) a h r = record { setup = r.setup; joiner = r.joiner; contact = r.contact; me = r.me; horizon = r.horizon; node = r.node; log = r.log; shown = λ k w t. record { place = (r.shown k w t).place; seats = (r.shown k w t).seats; view = (r.shown k w t).view }; outside = r.outside; offline = r.offline; welcomed = r.welcomed; waits = λ g w t. record { place = (r.waits g w t).place; down = (r.waits g w t).down }; life = (tt, r.life) }
-said (Done p) a h r = record { setup = r.setup; joiner = r.joiner; contact = r.contact; me = r.me; horizon = r.horizon; node = r.node; log = r.log; shown = λ k w t. record { place = (r.shown k w t).place; seats = (r.shown k w t).seats; view = (r.shown k w t).view }; outside = r.outside; offline = r.offline; welcomed = r.welcomed; waits = λ g w t. record { place = (r.waits g w t).place; down = (r.waits g w t).down }; life = (tt, r.life) }
-said (Committed g) a h r = record { setup = r.setup; joiner = r.joiner; contact = r.contact; me = r.me; horizon = r.horizon; node = r.node; log = r.log; shown = λ k w t. record { place = (r.shown k w t).place; seats = (r.shown k w t).seats; view = (r.shown k w t).view }; outside = r.outside; offline = r.offline; welcomed = r.welcomed; waits = λ g w t. record { place = (r.waits g w t).place; down = (r.waits g w t).down }; life = (tt, r.life) }
-said (Gave p n) a h r = record { setup = r.setup; joiner = r.joiner; contact = r.contact; me = r.me; horizon = r.horizon; node = r.node; log = r.log; shown = λ k w t. record { place = (r.shown k w t).place; seats = (r.shown k w t).seats; view = (r.shown k w t).view }; outside = r.outside; offline = r.offline; welcomed = r.welcomed; waits = λ g w t. record { place = (r.waits g w t).place; down = (r.waits g w t).down }; life = (tt, r.life) }
-said (Answered s y) a h r = record { setup = r.setup; joiner = r.joiner; contact = r.contact; me = r.me; horizon = r.horizon; node = r.node; log = r.log; shown = λ k w t. record { place = (r.shown k w t).place; seats = (r.shown k w t).seats; view = (r.shown k w t).view }; outside = r.outside; offline = r.offline; welcomed = r.welcomed; waits = λ g w t. record { place = (r.waits g w t).place; down = (r.waits g w t).down }; life = (tt, r.life) }
-said (Begun s e y) a h r = record { setup = r.setup; joiner = r.joiner; contact = r.contact; me = r.me; horizon = r.horizon; node = r.node; log = r.log; shown = λ k w t. record { place = (r.shown k w t).place; seats = (r.shown k w t).seats; view = (r.shown k w t).view }; outside = r.outside; offline = r.offline; welcomed = r.welcomed; waits = λ g w t. record { place = (r.waits g w t).place; down = (r.waits g w t).down }; life = (tt, r.life) }
-said (Changed s c) a h r = record { setup = r.setup; joiner = r.joiner; contact = r.contact; me = r.me; horizon = r.horizon; node = r.node; log = r.log; shown = λ k w t. record { place = (r.shown k w t).place; seats = (r.shown k w t).seats; view = (r.shown k w t).view }; outside = r.outside; offline = r.offline; welcomed = r.welcomed; waits = λ g w t. record { place = (r.waits g w t).place; down = (r.waits g w t).down }; life = (tt, r.life) }
-said (Replied y) a h r = record { setup = r.setup; joiner = r.joiner; contact = r.contact; me = r.me; horizon = r.horizon; node = r.node; log = r.log; shown = λ k w t. record { place = (r.shown k w t).place; seats = (r.shown k w t).seats; view = (r.shown k w t).view }; outside = r.outside; offline = r.offline; welcomed = r.welcomed; waits = λ g w t. record { place = (r.waits g w t).place; down = (r.waits g w t).down }; life = (tt, r.life) }
-said (Called s v w) a h r = record { setup = r.setup; joiner = r.joiner; contact = r.contact; me = r.me; horizon = r.horizon; node = r.node; log = r.log; shown = λ k w t. record { place = (r.shown k w t).place; seats = (r.shown k w t).seats; view = (r.shown k w t).view }; outside = r.outside; offline = r.offline; welcomed = r.welcomed; waits = λ g w t. record { place = (r.waits g w t).place; down = (r.waits g w t).down }; life = (tt, r.life) }
-said (AsksCommit s i) a h r = record { setup = r.setup; joiner = r.joiner; contact = r.contact; me = r.me; horizon = r.horizon; node = r.node; log = r.log; shown = λ k w t. record { place = (r.shown k w t).place; seats = (r.shown k w t).seats; view = (r.shown k w t).view }; outside = r.outside; offline = r.offline; welcomed = r.welcomed; waits = λ g w t. record { place = (r.waits g w t).place; down = (r.waits g w t).down }; life = (tt, r.life) }
-said (Ends s) a h r = record { setup = r.setup; joiner = r.joiner; contact = r.contact; me = r.me; horizon = r.horizon; node = r.node; log = r.log; shown = λ k w t. record { place = (r.shown k w t).place; seats = (r.shown k w t).seats; view = (r.shown k w t).view }; outside = r.outside; offline = r.offline; welcomed = r.welcomed; waits = λ g w t. record { place = (r.waits g w t).place; down = (r.waits g w t).down }; life = (tt, r.life) }
-said AskFails a h r = record { setup = r.setup; joiner = r.joiner; contact = r.contact; me = r.me; horizon = r.horizon; node = r.node; log = r.log; shown = λ k w t. record { place = (r.shown k w t).place; seats = (r.shown k w t).seats; view = (r.shown k w t).view }; outside = r.outside; offline = r.offline; welcomed = r.welcomed; waits = λ g w t. record { place = (r.waits g w t).place; down = (r.waits g w t).down }; life = (tt, r.life) }
-said (Is Error c) a h r = record { setup = r.setup; joiner = r.joiner; contact = r.contact; me = r.me; horizon = r.horizon; node = r.node; log = r.log; shown = λ k w t. true_false k; outside = λ k. refl; offline = λ k. false_true k; welcomed = λ k. false_true k; waits = λ g w t. record { place = (r.waits g w t).place; down = refl }; life = (tt, r.life) }
-said (Is Offline c) a h r = true_false h
-said (Is Recovering c) a h r = true_false h
-said (Is Online c) a h r = true_false h
-said Founds a h r = true_false h
-said (Starts x) a h r = true_false h
-said (Took e) a h r = true_false h
-said (Enters w) a h r = true_false h
-said (Restores g cs) a h r = true_false h
+said d a h r = record { node = r.node }
+
+pub on_welcome : (m : Message) (w : Welcome) (a : Member) → IsInRange (at_node (Heard m) a).node → IsInRange (hear_welcome w (at_node (Heard m) a)).node
+on_welcome m w a r = go (is_offline (state a.life) && (is_in_order w && is_for w a.me.inc (at_node (Heard m) a).node.horizon))
+  where
+    go : (t : Bool) → IsInRange (elim t as (λ b. Member) [ true ↦ push (Is Recovering Welcomed) (push (Enters w) (at_node (Heard m) a)) | false ↦ at_node (Heard m) a ]).node
+    go true = r
+    go false = r
+
+pub on_taken : (t : Taken) (k : Kept) (a : Member) → IsInRange (by_node take a).node → IsInRange (entered_by t k (by_node take a)).node
+on_taken t IsSkipped a r = r
+on_taken t (KeptAt p h) a r = r
