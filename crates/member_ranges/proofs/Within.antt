@@ -8,6 +8,7 @@ use Rattle.node_rules.specs.declared.event.PaxosEvent.TheVariants.{Heard}
 use Rattle.node_rules.specs.declared.taken.Taken.{Taken}
 use Rattle.paxos_forms.specs.declared.message.Message.{Message}
 use Rattle.paxos_forms.specs.declared.welcome.Welcome.{Welcome}
+use Rattle.name_forms.specs.Incs.{IsInc}
 use Rattle.paxos_ranges.specs.Ranges.{IsInRange}
 use Rattle.group_rules.specs.Events.{Did, Enters, Is}
 use Rattle.group_rules.specs.Life.{is_offline, state}
@@ -20,7 +21,7 @@ use Rattle.member_ranges.specs.Ranges.{InRange, is_of_range}
 use Rattle.member_ranges.specs.Taking.{entered_by}
 
 pub said : (d : Did) (a : Member) → is_of_range d ≡ false → InRange a → InRange (push d a)
-said d a h r = record { node = r.node }
+said d a h r = record { me = r.me; node = r.node }
 
 pub on_welcome : (m : Message) (w : Welcome) (a : Member) → IsInRange (at_node (Heard m) a).node → IsInRange (hear_welcome w (at_node (Heard m) a)).node
 on_welcome m w a r = go (is_offline (state a.life) && (is_in_order w && is_for w a.me.inc (at_node (Heard m) a).node.horizon))
@@ -32,3 +33,17 @@ on_welcome m w a r = go (is_offline (state a.life) && (is_in_order w && is_for w
 pub on_taken : (t : Taken) (k : Kept) (a : Member) → IsInRange (by_node take a).node → IsInRange (entered_by t k (by_node take a)).node
 on_taken t IsSkipped a r = r
 on_taken t (KeptAt p h) a r = r
+
+pub inc_in_range : (a : Member) → InRange a → IsInc a.me.inc
+inc_in_range a r = r.me
+
+pub welcome_me : (m : Message) (w : Welcome) (a : Member) → IsInc a.me.inc → IsInc (hear_welcome w (at_node (Heard m) a)).me.inc
+welcome_me m w a r = go (is_offline (state a.life) && (is_in_order w && is_for w a.me.inc (at_node (Heard m) a).node.horizon))
+  where
+    go : (t : Bool) → IsInc (elim t as (λ b. Member) [ true ↦ push (Is Recovering Welcomed) (push (Enters w) (at_node (Heard m) a)) | false ↦ at_node (Heard m) a ]).me.inc
+    go true = r
+    go false = r
+
+pub taken_me : (t : Taken) (k : Kept) (a : Member) → IsInc a.me.inc → IsInc (entered_by t k (by_node take a)).me.inc
+taken_me t IsSkipped a r = r
+taken_me t (KeptAt p h) a r = r

@@ -1,11 +1,13 @@
 -- A member within the ranges that the forms of messages have: all that it sends can be spelt.
 use Rattle.std.specs.Prelude.{Bool, true, false}
 use Rattle.gr_ids.specs.declared.levels.MemberState.TheVariants.{Error}
+use Rattle.name_forms.specs.Incs.{IsInc}
 use Rattle.paxos_ranges.specs.Ranges.{IsInRange}
 use Rattle.group_rules.specs.Events.{Did, Enters, Founds, Is, Restores, Starts, Took}
 use Rattle.group_rules.specs.Member.{Member}
 
 pub record InRange (a : Member) : Type 0 where
+  pub me : IsInc a.me.inc
   pub node : IsInRange a.node
 
 -- a begin, an entry, a Welcome, a Give, and a state that isn't ERROR
