@@ -18,7 +18,8 @@ use Rattle.group_rules.specs.declared.answers.Holder.{Holder}
 use Rattle.group_rules.specs.declared.requests.Request.{Request}
 use Rattle.group_rules.specs.declared.requests.Request.TheVariants.{Begin, Get, Insert, Update, Delete, Commit, Rollback}
 use Rattle.txn_forms.specs.declared.body.Body.TheVariants.{Txn as Writes}
-use Rattle.txn_forms.specs.Bodies.{body_bytes, txn_bytes}
+use Rattle.txn_forms.specs.declared.body.Txn.{Txn}
+use Rattle.txn_forms.specs.Bodies.{IsHeldTxn, IsTxn, body_bytes, txn_bytes}
 use Rattle.group_rules.specs.Calls.{misfit, txn_of as txn_in, wants_online}
 use Rattle.group_rules.specs.Events.{Life}
 use Rattle.group_rules.specs.Keys.{killed, was_left}
@@ -30,6 +31,7 @@ use Rattle.group_rules.specs.Rows.{fits}
 use Rattle.local_sessions.specs.declared.commit_step.CommitStep.TheVariants.{Ready, Said}
 use Rattle.local_sessions.specs.declared.tables.Tables.{Tables}
 use Rattle.local_sessions.specs.Acting.{reply_to}
+use Rattle.local_sessions.specs.Committing.{IsSpeltIn}
 use Rattle.local_sessions.specs.Replies.{Holds, Reply, bar_at, begin, begin_free, change_row, commit, commit_bytes, commit_changes, ends, get, is_read_only, reply_or, rollback, statement, statement_in, stays, txn_of, unless_barred, unless_locked}
 use Rattle.local_sessions.specs.Standing.{Active, Asked, Asking, Holding, Session, Stage, WasKilled, WasLeft, session_in, stage_of}
 use Rattle.local_sessions.specs.Following.{LeftActive, StandFor, TablesOf, is_left, stage_in}
@@ -236,14 +238,16 @@ tells_size at o b e =
     let long : 1 ≤ length (body_bytes (Writes (txn_of at k.0))) = omega (arith, length-append (number 1 1) (txn_bytes (txn_of at k.0)), length-number 1 1) in
     (subst (λ c. 1 ≤ length c) (sym k.1.1.bytes) long, k.1.1.short)
 
--- it is the transaction of the rules, whose begin isn't held
+-- it is the transaction of the rules, which can be spelt, and whose begin isn't held
 pub tells_sent : (xs : List Session) (at : Tables) (a : Member) (s : ℕ) (b : List ℕ) → StandFor xs a.life → LeftActive a.life → TablesOf at a → (reply_to at (session_in xs s) Commit).answer ≡ Ready b
-    → (b ≡ body_bytes (Writes (txn_in s a))) × (is_holding (phase a.life s) ≡ false)
+    → (b ≡ body_bytes (Writes (txn_in s a))) × ((is_holding (phase a.life s) ≡ false) × (IsSpeltIn at (session_in xs s) (Ready b) → IsTxn (txn_in s a) × IsHeldTxn (txn_in s a)))
 tells_sent xs at a s b f l t e =
     let k = sends at (session_in xs s) b e in
     let on = acts a.life s l (sym (f s).stage ∙ (ap stage_of k.1.0 ∙ ap (λ g. Some g) k.1.1.active)) in
-    let same = txn_sent xs at a s k.0 f t k.1.0 k.1.1.active on.active in
-    (k.1.1.bytes ∙ ap (λ u. body_bytes (Writes u)) (sym same), quiet (phase a.life s) refl on.active)
+    let same : txn_in s a ≡ txn_of at k.0 = txn_sent xs at a s k.0 f t k.1.0 k.1.1.active on.active in (
+      k.1.1.bytes ∙ ap (λ u. body_bytes (Writes u)) (sym same),
+      (quiet (phase a.life s) refl on.active, λ h. subst (λ (u : Txn). IsTxn u × IsHeldTxn u) (sym same) (subst (λ (o : Option Session). IsSpeltIn at o (Ready b)) k.1.0 h)),
+    )
   where
     quiet : (p : Phase) → phase a.life s ≡ p → is_active (phase a.life s) ≡ true → is_holding (phase a.life s) ≡ false
     quiet IsFree e h = ap is_holding e
