@@ -1,6 +1,9 @@
 pub mod Doing
 pub mod Called
 pub mod Answered
+pub mod Sending
+pub mod Beside
+pub mod Asked
 pub mod Pushed
 pub mod Told
 pub mod Replies
