@@ -6,3 +6,7 @@ pub mod Steps
 pub mod Seats
 pub mod Views
 pub mod Holding
+pub mod Passed
+pub mod Begun
+pub mod Welcomed
+pub mod Taken

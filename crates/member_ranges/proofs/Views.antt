@@ -149,7 +149,7 @@ module _ (k p : ℕ) (later : k + 1 ≤ p) (o : Inc) (v : View) (q : IsView k v)
 
 -- ---- how a view begins
 
-after_none : (b : Option Inc) (j : Joiner) → IsJoinerAfter b j → IsJoiner j
+pub after_none : (b : Option Inc) (j : Joiner) → IsJoinerAfter b j → IsJoiner j
 after_none None j h = h
 after_none (Some i) j h = record { inc = h.inc.0; uuid = h.uuid; parts = h.parts; small = h.small; weight = h.weight }
 

@@ -8,7 +8,7 @@ use Rattle.name_forms.specs.Incs.{IsInc}
 use Rattle.gtid_sets.specs.Canonical.{IsUuid}
 use Rattle.slot_values.specs.declared.value.Joiner.{Joiner}
 use Rattle.slot_values.specs.Joiners.{IsJoiner, IsJoinerAfter}
-use Rattle.slot_values.specs.Log.{Turns, incs}
+use Rattle.slot_values.specs.Log.{Reading, Turns, incs}
 use Rattle.paxos_forms.specs.Welcomes.{IsPrimary, state_number}
 use Rattle.paxos_forms.specs.declared.welcome.Welcome.{Welcome}
 use Rattle.paxos_ranges.specs.Ranges.{IsInRange}
@@ -56,10 +56,10 @@ pub record IsView (place : ℕ) (v : View) : Type 0 where
   pub seats : (s : Seat) → In s v.seats → IsSeat s
 
 -- the history is at the place of the node's log, and the members there have the seats of the view
-pub record Shows (a : Member) (w : Turns) : Type 0 where
-  pub place : w.reading.place ≡ taken a.life
-  pub seats : incs w.reading.members ≡ seated (view a.setup a.life).seats
-  pub view : IsView (taken a.life) (view a.setup a.life)
+pub record Shows (p : ℕ) (v : View) (r : Reading) : Type 0 where
+  pub place : r.place ≡ p
+  pub seats : incs r.members ≡ seated v.seats
+  pub view : IsView p v
 
 -- ---- the member
 
@@ -68,9 +68,9 @@ abbrev pub is_outside : MemberState → Bool
 is_outside s = is_offline s || is_error s
 
 -- until its Give comes a joiner stays at the place of its Add, and isn't ONLINE
-pub record IsWaiting (a : Member) (w : Welcome) : Type 0 where
-  pub place : taken a.life ≡ w.place
-  pub down : is_up (state a.life) ≡ false
+pub record IsWaiting (p : ℕ) (s : MemberState) (w : Welcome) : Type 0 where
+  pub place : p ≡ w.place
+  pub down : is_up s ≡ false
 
 -- A node has a log from its founding or its Welcome on. In ERROR a member shows nothing any more.
 pub record InRange (a : Member) : Type 0 where
@@ -81,11 +81,11 @@ pub record InRange (a : Member) : Type 0 where
   pub horizon : a.node.horizon ≡ a.setup.limits.horizon
   pub node : IsInRange a.node
   pub log : (w : Turns) → a.node.turns ≡ Some w → HasLog a.node w
-  pub shown : is_error (state a.life) ≡ false → (w : Turns) → a.node.turns ≡ Some w → Shows a w
+  pub shown : is_error (state a.life) ≡ false → (w : Turns) → a.node.turns ≡ Some w → Shows (taken a.life) (view a.setup a.life) w.reading
   pub outside : a.node.turns ≡ None → is_outside (state a.life) ≡ true
   pub offline : is_offline (state a.life) ≡ true → a.node.turns ≡ None
   pub welcomed : is_recovering (state a.life) ≡ true → is_some (entered a.life) ≡ true
-  pub waits : has_give a.life ≡ false → (w : Welcome) → entered a.life ≡ Some w → IsWaiting a w
+  pub waits : has_give a.life ≡ false → (w : Welcome) → entered a.life ≡ Some w → IsWaiting (taken a.life) (state a.life) w
   pub life : AllFit a.setup a.life
 
 -- ---- what changes it
