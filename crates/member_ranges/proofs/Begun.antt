@@ -64,6 +64,7 @@ module _ (s : Setup) (good : IsFounding s) where
         shown = λ q w e. let z : first_turns (group_of s) ≡ w = cc in subst (λ (v : Turns). Shows 0 (founding s.mode s.founders) v.reading) z (record { place = refl; seats = first_seats; view = founding_is_view s.mode s.founders good.founders });
         outside = λ e. absurd (cc e);
         offline = λ e. absurd (false≢true e);
+        before = λ e. absurd (false≢true e);
         welcomed = λ e. absurd (false≢true e);
         waits = λ q w e. absurd (cc e);
         life = (tt, (tt, tt));
@@ -82,6 +83,7 @@ module _ (s : Setup) (good : IsFounding s) where
     shown = λ q w e. absurd (cc e);
     outside = λ e. refl;
     offline = λ e. refl;
+    before = λ e. refl;
     welcomed = λ e. absurd (false≢true e);
     waits = λ q w e. absurd (cc e);
     life = (tt, (y, tt));

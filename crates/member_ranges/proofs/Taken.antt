@@ -150,6 +150,7 @@ module _ (t : Taken) (a : Member) (ok : takes_slots a.life ≡ true) (k : InRang
       shown = λ q w h. subst (λ (r : Reading). Shows p (view a.setup (Took (entry_of a.setup a.life t.slot p b t.value) ∷ a.life)) r) (some_is (sym next.reading ∙ ap reading_by h)) shows_on;
       outside = λ h. absurd (cc (sym next.reading ∙ ap reading_by h));
       offline = λ h. absurd (cc (sym next.had ∙ k.offline h));
+      before = λ h. absurd (cc (sym next.had ∙ k.offline h));
       welcomed = k.welcomed;
       waits = λ q w h. absurd (false≢true (sym q ∙ is_ready.2 (k.waits q w h).down));
       life = (record { above = omega (arith, later); below = below; value = value; holds = holds; seats = seated_now }, k.life);

@@ -1,5 +1,5 @@
 -- A Welcome comes to the node and the member at once.
-use Rattle.std.proofs.Common.{◌≡◌, inl, inr, ℕ, Bool, true, false, not, ◌||◌, ◌&&◌, Option, Some, None, List, [], ◌∷◌, ◌++◌, refl, sym, ap, subst, ◌∙◌}
+use Rattle.std.proofs.Common.{◌≡◌, ◌≤◌, inl, inr, ℕ, arith, Bool, true, false, not, ◌||◌, ◌&&◌, Option, Some, None, List, [], ◌∷◌, ◌++◌, refl, sym, ap, subst, ◌∙◌}
 use Rattle.std.specs.Prelude.{is_some, map}
 use Rattle.std.proofs.lemmas.Bool.{and_parts, false≢true}
 use Rattle.gr_ids.specs.declared.levels.MemberState.{MemberState}
@@ -63,8 +63,8 @@ module _ (w : Welcome) (i : IsWelcome w) (a : Member) (k : InRange a) (n : Node)
     reading_is : (u : Turns) → n.turns ≡ Some u → (resumed (told_in w)).reading ≡ u.reading
     reading_is u h = some_is (sym b.reading ∙ ap reading_by h)
 
-    joined : InRange (push (Is Recovering Welcomed) (push (Enters w) (record a { node = n; sent = ms })))
-    joined = record {
+    joined : is_offline (state a.life) ≡ true → InRange (push (Is Recovering Welcomed) (push (Enters w) (record a { node = n; sent = ms })))
+    joined off = record {
       setup = k.setup;
       joiner = k.joiner;
       contact = k.contact;
@@ -75,9 +75,10 @@ module _ (w : Welcome) (i : IsWelcome w) (a : Member) (k : InRange a) (n : Node)
       shown = λ q u h. subst (λ (z : Reading). Shows w.place (view_told w) z) (reading_is u h) (shown_by w i);
       outside = λ h. absurd (not_none h);
       offline = λ h. absurd (false≢true h);
+      before = λ h. absurd (false≢true h);
       welcomed = λ h. refl;
       waits = λ q u h. subst (λ (z : Welcome). IsWaiting w.place Recovering z) (some_is h) (record { place = refl; down = refl });
-      life = (tt, (i, k.life));
+      life = (tt, (record { welcome = i; place = let z = k.before off in omega (arith, z) }, k.life));
     }
 
     -- in ERROR the node begins with it alone
@@ -93,6 +94,7 @@ module _ (w : Welcome) (i : IsWelcome w) (a : Member) (k : InRange a) (n : Node)
       shown = λ q u h. absurd (false≢true (sym q ∙ e));
       outside = λ h. absurd (not_none h);
       offline = λ h. absurd (offline_error (state a.life) h e);
+      before = k.before;
       welcomed = k.welcomed;
       waits = k.waits;
       life = k.life;
@@ -108,7 +110,7 @@ module _ (w : Welcome) (i : IsWelcome w) (a : Member) (k : InRange a) (n : Node)
     for_me = ap (λ z. is_for w z n.horizon) (sym k.me) ∙ (ap (λ z. is_for w a.node.me z) g.horizon ∙ b.for)
 
     begins : (c : Bool) → (is_offline (state a.life) && (is_in_order w && is_for w a.me.inc n.horizon)) ≡ c → InRange (welcomed_if c w (record a { node = n; sent = ms }))
-    begins true e = joined
+    begins true e = joined (and_parts (is_offline (state a.life)) (is_in_order w && is_for w a.me.inc n.horizon) e).0
     begins false e = alone (either_out (state a.life) (k.outside b.unread) (first (is_offline (state a.life)) _ e (both (is_in_order w) (is_for w a.me.inc n.horizon) b.order for_me)))
       where
         first : (x y : Bool) → (x && y) ≡ false → y ≡ true → x ≡ false

@@ -12,6 +12,7 @@ use Rattle.txn_forms.specs.Bodies.{IsBody, body_bytes}
 use Rattle.paxos_forms.specs.Gives.{IsGive}
 use Rattle.paxos_forms.specs.Welcomes.{IsWelcome}
 use Rattle.paxos_forms.specs.declared.recovery.Give.{Give}
+use Rattle.paxos_forms.specs.declared.welcome.Welcome.{Welcome}
 use Rattle.node_rules.specs.Lists.{In}
 use Rattle.group_rules.specs.Events.{Cert, Did, Enters, Entry, Life, Restores, Setup, Starts, Stored, Took}
 use Rattle.group_rules.specs.Life.{taken, view}
@@ -49,6 +50,11 @@ pub record IsInPlace (s : Setup) (l : Life) (e : Entry) : Type 0 where
   pub holds : IsHolding e.holds
   pub seats : AreSeated (view s (Took e ∷ l))
 
+-- a Welcome comes before any entry
+pub record IsEntering (l : Life) (w : Welcome) : Type 0 where
+  pub welcome : IsWelcome w
+  pub place : taken l ≤ w.place
+
 -- a Give is taken up before any entry: it is of the place of the joiner's Add
 pub record IsTakenUp (l : Life) (g : Give) (cs : List Cert) : Type 0 where
   pub give : IsGive g
@@ -57,7 +63,7 @@ pub record IsTakenUp (l : Life) (g : Give) (cs : List Cert) : Type 0 where
 
 abbrev pub IsFitting : Setup → Did → Life → Type 0
 IsFitting s (Starts x) l = AreGivable x.committed
-IsFitting s (Enters w) l = IsWelcome w
+IsFitting s (Enters w) l = IsEntering l w
 IsFitting s (Took e) l = IsInPlace s l e
 IsFitting s (Restores g cs) l = IsTakenUp l g cs
 IsFitting s d l = Unit {0}

@@ -84,6 +84,7 @@ pub record InRange (a : Member) : Type 0 where
   pub shown : is_error (state a.life) ≡ false → (w : Turns) → a.node.turns ≡ Some w → Shows (taken a.life) (view a.setup a.life) w.reading
   pub outside : a.node.turns ≡ None → is_outside (state a.life) ≡ true
   pub offline : is_offline (state a.life) ≡ true → a.node.turns ≡ None
+  pub before : is_offline (state a.life) ≡ true → taken a.life ≡ 0
   pub welcomed : is_recovering (state a.life) ≡ true → is_some (entered a.life) ≡ true
   pub waits : has_give a.life ≡ false → (w : Welcome) → entered a.life ≡ Some w → IsWaiting (taken a.life) (state a.life) w
   pub life : AllFit a.setup a.life
