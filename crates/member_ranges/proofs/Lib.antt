@@ -10,3 +10,5 @@ pub mod Passed
 pub mod Begun
 pub mod Welcomed
 pub mod Taken
+pub mod Items
+pub mod Sent
