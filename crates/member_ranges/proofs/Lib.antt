@@ -12,3 +12,6 @@ pub mod Welcomed
 pub mod Taken
 pub mod Items
 pub mod Sent
+pub mod Certified
+pub mod Histories
+pub mod Gives
