@@ -1,21 +1,19 @@
 -- What happens besides, what the node does, and states, keep a member in range.
-use Rattle.std.proofs.Common.{◌≡◌, ℕ, Bool, true, false, ◌||◌, ◌&&◌, Option, Some, None, List, [], ◌∷◌, refl, sym, ap, subst, ◌∙◌}
-use Rattle.std.specs.Prelude.{is_some}
+use Rattle.std.proofs.Common.{◌≡◌, Bool, true, false, ◌||◌, ◌&&◌, Option, Some, None, List, ◌∷◌, refl, sym, ap, subst, ◌∙◌}
 use Rattle.std.proofs.lemmas.Bool.{false≢true}
 use Rattle.gr_ids.specs.declared.levels.MemberState.{MemberState}
 use Rattle.gr_ids.specs.declared.levels.MemberState.TheVariants.{Offline, Recovering, Online, Error}
-use Rattle.slot_values.specs.Log.{Reading, Turns}
+use Rattle.slot_values.specs.Log.{Reading}
 use Rattle.paxos_forms.specs.Gives.{IsGive}
 use Rattle.paxos_forms.specs.declared.message.Message.{Message}
 use Rattle.paxos_forms.specs.declared.recovery.Give.{Give}
-use Rattle.paxos_forms.specs.declared.welcome.Welcome.{Welcome}
 use Rattle.node_rules.specs.Node.{Node}
 use Rattle.node_rules.specs.Step.{node_step}
 use Rattle.node_rules.specs.declared.event.PaxosEvent.{PaxosEvent}
 use Rattle.paxos_ranges.specs.Ranges.{IsGiven, IsInRange}
 use Rattle.paxos_ranges.proofs.Rows.{step_in_range}
 use Rattle.group_rules.specs.declared.marks.Cause.{Cause}
-use Rattle.group_rules.specs.Events.{AskFails, AsksCommit, Answered, Begun, Called, Calls, Came, Cert, Changed, Committed, Did, Done, Ends, Enters, Founds, Gave, Hears, Is, Life, Made, Operates, Replied, Restores, Skips, Starts, Ticks, Took, Works}
+use Rattle.group_rules.specs.Events.{AskFails, AsksCommit, Answered, Begun, Called, Calls, Came, Cert, Changed, Committed, Did, Done, Ends, Enters, Founds, Gave, Hears, Is, Made, Operates, Replied, Restores, Skips, Starts, Ticks, Took, Works}
 use Rattle.group_rules.specs.Life.{entered, has_give, is_error, is_offline, is_recovering, is_up, state, taken, view}
 use Rattle.group_rules.specs.Member.{Member, at_node, push}
 use Rattle.group_rules.specs.Recovery.{add_place, certs_given}
