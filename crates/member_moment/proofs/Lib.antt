@@ -1,1 +1,4 @@
 pub mod Doing
+pub mod Aside
+pub mod Ended
+pub mod Begun
