@@ -2,7 +2,6 @@ pub mod Standing
 pub mod Doing
 pub mod Saying
 pub mod Arriving
-pub mod Ordering
 pub mod Owning
 pub mod Taking
 pub mod Joining
