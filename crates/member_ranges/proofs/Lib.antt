@@ -1,1 +1,12 @@
-pub mod Within
+pub mod Chains
+pub mod Logs
+pub mod Greeted
+pub mod Nodes
+pub mod Steps
+pub mod Seats
+pub mod Views
+pub mod Holding
+pub mod Passed
+pub mod Begun
+pub mod Welcomed
+pub mod Taken
