@@ -10,3 +10,8 @@ pub mod Passed
 pub mod Begun
 pub mod Welcomed
 pub mod Taken
+pub mod Items
+pub mod Sent
+pub mod Certified
+pub mod Histories
+pub mod Gives

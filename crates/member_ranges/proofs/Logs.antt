@@ -177,7 +177,7 @@ log_turn h w v i k =
       configs = λ c q. elim (in_push c w.configs (incs (read w.reading v).members) q) [ inl z ↦ k.configs c z | inr e ↦ subst (λ l. AreFew l) e r.few ];
     }
 
-in_drop : {A : Type 0} (n : ℕ) (xs : List A) (x : A) → In x (drop n xs) → In x xs
+pub in_drop : {A : Type 0} (n : ℕ) (xs : List A) (x : A) → In x (drop n xs) → In x xs
 in_drop zero xs x h = h
 in_drop (suc n) [] x h = h
 in_drop (suc n) (y ∷ ys) x h = inr (in_drop n ys x h)

@@ -69,7 +69,7 @@ passes d a s v t e g f k = record {
   outside = λ h. ap is_outside s ∙ k.outside h;
   offline = λ h. k.offline (sym (ap is_offline s) ∙ h);
   before = λ h. t ∙ k.before (sym (ap is_offline s) ∙ h);
-  welcomed = λ h. ap is_some e ∙ k.welcomed (sym (ap is_recovering s) ∙ h);
+  welcomed = λ h. let z = k.welcomed (sym (ap is_recovering s) ∙ h) in (z.0, e ∙ z.1, z.2);
   waits = λ q w h. subst (λ z. IsWaiting (taken (d ∷ a.life)) z w) (sym s) (subst (λ p. IsWaiting p (state a.life) w) (sym t) (k.waits (sym g ∙ q) w (sym e ∙ h)));
   life = (f, k.life);
 }
@@ -158,14 +158,10 @@ arrives c a h k =
 
 -- ---- a Give
 
-some_of : {A : Type 0} (o : Option A) → is_some o ≡ true → (x : A) × (o ≡ Some x)
-some_of None h = absurd (false≢true h)
-some_of (Some x) h = (x, refl)
-
 pub restored : (g : Give) (cs : List Cert) (a : Member) → IsGive g → g.place ≡ add_place (entered a.life) → cs ≡ certs_given g.txns
     → is_recovering (state a.life) ≡ true → has_give a.life ≡ false → InRange a → InRange (push (Restores g cs) a)
 restored g cs a i p c r n k =
-    let w = some_of (entered a.life) (k.welcomed r) in
+    let w = k.welcomed r in
     record {
       setup = k.setup;
       joiner = k.joiner;

@@ -76,7 +76,7 @@ module _ (w : Welcome) (i : IsWelcome w) (a : Member) (k : InRange a) (n : Node)
       outside = λ h. absurd (not_none h);
       offline = λ h. absurd (false≢true h);
       before = λ h. absurd (false≢true h);
-      welcomed = λ h. refl;
+      welcomed = λ h. (w, refl, i);
       waits = λ q u h. subst (λ (z : Welcome). IsWaiting w.place Recovering z) (some_is h) (record { place = refl; down = refl });
       life = (tt, (record { welcome = i; place = let z = k.before off in omega (arith, z) }, k.life));
     }

@@ -1,5 +1,5 @@
 -- A member within the ranges that the forms of messages have: all that it sends can be spelt.
-use Rattle.std.specs.Prelude.{◌≡◌, ◌+◌, ◌≤◌, ℕ, Bool, true, false, ◌||◌, Option, Some, None, is_some, length}
+use Rattle.std.specs.Prelude.{◌≡◌, ◌+◌, ◌≤◌, ℕ, Bool, true, false, ◌||◌, Option, Some, None, length}
 use Rattle.byte_forms.specs.Lists.{IsChain}
 use Rattle.gr_ids.specs.declared.names.Inc.{Inc}
 use Rattle.gr_ids.specs.declared.levels.MemberState.{MemberState}
@@ -9,7 +9,7 @@ use Rattle.gtid_sets.specs.Canonical.{IsUuid}
 use Rattle.slot_values.specs.declared.value.Joiner.{Joiner}
 use Rattle.slot_values.specs.Joiners.{IsJoiner, IsJoinerAfter}
 use Rattle.slot_values.specs.Log.{Reading, Turns, incs}
-use Rattle.paxos_forms.specs.Welcomes.{IsPrimary, state_number}
+use Rattle.paxos_forms.specs.Welcomes.{IsPrimary, IsWelcome, state_number}
 use Rattle.paxos_forms.specs.declared.welcome.Welcome.{Welcome}
 use Rattle.paxos_ranges.specs.Ranges.{IsInRange}
 use Rattle.node_rules.specs.declared.seat.Seat.{Seat}
@@ -85,7 +85,7 @@ pub record InRange (a : Member) : Type 0 where
   pub outside : a.node.turns ≡ None → is_outside (state a.life) ≡ true
   pub offline : is_offline (state a.life) ≡ true → a.node.turns ≡ None
   pub before : is_offline (state a.life) ≡ true → taken a.life ≡ 0
-  pub welcomed : is_recovering (state a.life) ≡ true → is_some (entered a.life) ≡ true
+  pub welcomed : is_recovering (state a.life) ≡ true → (w : Welcome) × (entered a.life ≡ Some w) × IsWelcome w
   pub waits : has_give a.life ≡ false → (w : Welcome) → entered a.life ≡ Some w → IsWaiting (taken a.life) (state a.life) w
   pub life : AllFit a.setup a.life
 
