@@ -1,4 +1,7 @@
 pub mod Doing
+pub mod Aside
+pub mod Ended
+pub mod Begun
 pub mod Pushed
 pub mod Told
 pub mod Replies

@@ -28,12 +28,15 @@ ghost use Rattle.group_rules.specs.Taking.{takes_slots};
 ghost use Rattle.group_rules.specs.Welcomes.{hear_welcome};
 ghost use Rattle.group_rules.specs.declared.marks.Cause.{Cause};
 ghost use Rattle.member_ranges.specs.Hearing.{is_welcome};
-ghost use Rattle.member_ranges.specs.Ranges.{InRange, is_of_range};
+ghost use Rattle.member_ranges.specs.Lives.{AreGivable};
+ghost use Rattle.member_ranges.specs.Ranges.{InRange, IsFounding, is_of_range};
 ghost use Rattle.member_ranges.specs.Taking.{takes_on};
 
 /// A member that begins in range stays there: by what its node does, and sends, where it keeps no more votes than a promise can count, and by each thing that goes
 /// into its history. A Welcome comes to the node and the member at once, and a slot is taken by both.
 pub fn members_stay_in_range()
+    ensures founded { (s : Setup) (j : Joiner) → IsFounding s → In j s.founders → InRange (found s j) }
+    ensures started { (s : Setup) (j : Joiner) (x : Stored) (i : Inc) → IsFounding s → IsJoiner j → IsInc i → AreGivable x.committed → InRange (start s j x i) }
     ensures said { (d : Did) (a : Member) → is_of_range d ≡ false → InRange a → InRange (push d a) }
     ensures sent { (ms : List Message) (a : Member) → InRange a → InRange (record a { sent = ms }) }
     ensures node { (e : PaxosEvent) (a : Member) → is_welcome e ≡ false → IsGiven e → InRange a → InRange (at_node e a) }
