@@ -4,15 +4,15 @@
 mod arriving;
 mod beginning;
 mod calling;
-mod committing;
+//mod committing;
 mod ending;
-mod joining;
+//mod joining;
 mod moment;
 mod ordering;
 mod owning;
 mod saying;
 mod taking;
-mod working;
+//mod working;
 
 pub use moment::{Left, Moment};
 pub use taking::Caused;
