@@ -19,7 +19,7 @@ use std::alloc::Global;
 
 /// The number of bytes of the spelling of a message. Linear in its lists. Refused as want of memory from 2^64 on, and where a set's
 /// counts need more than four bytes.
-pub(crate) fn message_size(alloc: Global, message: &Message) -> Result<u64, Memory>
+pub fn message_size(alloc: Global, message: &Message) -> Result<u64, Memory>
     ensures { IfOk result (λ n. n ≡ length (message_bytes message.now)) }
 {
     sum(wire_size(alloc, &message.wire)?, 10)

@@ -22,7 +22,7 @@ pub(crate) trait SizedForm {
 }
 
 /// The sum, which is refused as want of memory from 2^64 on.
-pub(crate) fn sum(a: u64, b: u64) -> Result<u64, Memory>
+pub fn sum(a: u64, b: u64) -> Result<u64, Memory>
     ensures { IfOk result (λ n. n ≡ a + b) }
 {
     match a.checked_add(b) {
