@@ -151,7 +151,7 @@ module _ (t : Taken) (a : Member) (ok : takes_slots a.life ≡ true) (k : InRang
       offline = λ h. absurd (cc (sym next.had ∙ k.offline h));
       before = λ h. absurd (cc (sym next.had ∙ k.offline h));
       welcomed = k.welcomed;
-      waits = λ q w h. absurd (false≢true (sym q ∙ is_ready.2 (k.waits q w h).down));
+      waits = λ q w h. absurd (false≢true (sym q ∙ is_ready.2 ((k.waits q w h).0).down));
       life = (record { above = omega (arith, later); below = below; value = value; holds = holds; seats = seated_now }, k.life);
     }
 
