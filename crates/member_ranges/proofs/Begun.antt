@@ -86,5 +86,5 @@ module _ (s : Setup) (good : IsFounding s) where
     before = λ e. refl;
     welcomed = λ e. absurd (false≢true e);
     waits = λ q w e. absurd (cc e);
-    life = (tt, (y, tt));
+    life = (tt, ((y, refl), tt));
   }

@@ -182,7 +182,7 @@ facts s me [] f t = record { certifies = record { blocks = omega arith; lasts = 
 facts s me (Took e ∷ l) f t = took s me l e f.0 t.0 (facts s me l f.1 t.1)
 facts s me (Restores g cs ∷ l) f t = restores s me l g cs f.0 t.0 (facts s me l f.1 t.1)
 facts s me (Enters w ∷ l) f t = enters s l w (f.0).place (facts s me l f.1 t.1)
-facts s me (Starts x ∷ l) f t = starts s l x f.0 (facts s me l f.1 t.1)
+facts s me (Starts x ∷ l) f t = starts s l x (f.0).0 (facts s me l f.1 t.1)
 facts s me (Founds ∷ l) f t = keeps s Founds l refl refl refl (λ o. refl) refl refl (facts s me l f.1 t.1)
 facts s me (Came (Hears m) ∷ l) f t = keeps s (Came (Hears m)) l refl refl refl (λ o. refl) refl refl (facts s me l f.1 t.1)
 facts s me (Came Ticks ∷ l) f t = keeps s (Came Ticks) l refl refl refl (λ o. refl) refl refl (facts s me l f.1 t.1)

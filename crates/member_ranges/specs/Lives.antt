@@ -61,8 +61,9 @@ pub record IsTakenUp (l : Life) (g : Give) (cs : List Cert) : Type 0 where
   pub place : g.place ≡ taken l
   pub certs : cs ≡ certs_given g.txns
 
+-- (a start is the first of its incarnation)
 abbrev pub IsFitting : Setup → Did → Life → Type 0
-IsFitting s (Starts x) l = AreGivable x.committed
+IsFitting s (Starts x) l = AreGivable x.committed × (l ≡ [])
 IsFitting s (Enters w) l = IsEntering l w
 IsFitting s (Took e) l = IsInPlace s l e
 IsFitting s (Restores g cs) l = IsTakenUp l g cs
