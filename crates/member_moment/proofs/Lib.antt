@@ -6,3 +6,4 @@ pub mod Pushed
 pub mod Told
 pub mod Replies
 pub mod Ordered
+pub mod Uncommitted
