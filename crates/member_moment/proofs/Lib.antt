@@ -7,3 +7,6 @@ pub mod Told
 pub mod Replies
 pub mod Ordered
 pub mod Uncommitted
+pub mod Owned
+pub mod Spelt
+pub mod Came

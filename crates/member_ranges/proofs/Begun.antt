@@ -1,18 +1,18 @@
 -- A member begins in range: a founder, and an incarnation that is to join.
-use Rattle.std.proofs.Common.{◌≡◌, inl, inr, ℕ, suc, ◌+◌, ◌≤◌, ◌<◌, Bool, true, false, Option, Some, None, List, [], ◌∷◌, refl, sym, ap, subst, ◌∙◌, arith, length}
+use Rattle.std.proofs.Common.{◌≡◌, inl, inr, ◌<◌, Option, Some, None, List, [], ◌∷◌, refl, sym, ap, subst, ◌∙◌, arith, length}
 use Rattle.std.specs.Prelude.{map}
 use Rattle.std.proofs.lemmas.Bool.{false≢true}
 use Rattle.std.proofs.lemmas.List.{length-map}
 use Rattle.byte_forms.specs.Lists.{IsChain}
 use Rattle.gr_ids.specs.declared.names.Inc.{Inc}
 use Rattle.gr_ids.specs.declared.levels.MemberState.TheVariants.{Online}
-use Rattle.name_forms.specs.Incs.{IsInc, IsIncAfter}
-use Rattle.slot_values.specs.Joiners.{IsJoiner, IsJoinerAfter}
-use Rattle.slot_values.specs.Log.{Reading, Turns, first_turns, founded, incs}
+use Rattle.name_forms.specs.Incs.{IsInc}
+use Rattle.slot_values.specs.Joiners.{IsJoiner}
+use Rattle.slot_values.specs.Log.{Turns, first_turns, founded, incs}
 use Rattle.slot_values.specs.declared.value.Joiner.{Joiner}
 use Rattle.slot_values.proofs.Effects.{incs_of_founders}
 use Rattle.node_rules.specs.Lists.{In}
-use Rattle.node_rules.specs.Node.{founder, joiner}
+use Rattle.node_rules.specs.Node.{founder}
 use Rattle.node_rules.specs.declared.seat.Seat.{Seat}
 use Rattle.paxos_ranges.proofs.Rows.{founder_in_range, joiner_in_range}
 use Rattle.group_rules.specs.Events.{Setup, Stored}
@@ -83,7 +83,7 @@ module _ (s : Setup) (good : IsFounding s) where
     shown = λ q w e. absurd (cc e);
     outside = λ e. refl;
     offline = λ e. refl;
-    before = λ e. refl;
+    before = λ e. (refl, record { certified = refl; untaken = λ p. refl; undone = λ p. refl; uncommitted = λ cs. refl });
     welcomed = λ e. absurd (false≢true e);
     waits = λ q w e. absurd (cc e);
     life = (tt, ((y, refl), tt));

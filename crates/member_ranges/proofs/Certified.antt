@@ -1,6 +1,5 @@
 -- What an entry makes of the certifier, the told sets and the open parts stays in range.
-use Rattle.std.proofs.Common.{◌≡◌, ◌⊎◌, inl, inr, ℕ, suc, ◌+◌, ◌≤◌, ◌<◌, Bool, true, false, cond, not, Option, Some, None, IfSome, List, [], ◌∷◌, refl, sym, ap, subst, ◌∙◌, arith}
-use Rattle.std.specs.Prelude.{filter}
+use Rattle.std.proofs.Common.{◌≡◌, ◌⊎◌, inl, inr, ℕ, suc, ◌≤◌, ◌<◌, Bool, true, false, Option, Some, None, IfSome, List, [], ◌∷◌, refl, subst, arith}
 use Rattle.std.proofs.lemmas.Bool.{cond_both}
 use Rattle.gr_ids.specs.Names.{inc_eq, inc_lt}
 use Rattle.gr_ids.specs.declared.limits.Limits.{Limits}
@@ -12,7 +11,7 @@ use Rattle.gr_ids.specs.declared.names.ValueId.{ValueId}
 use Rattle.name_forms.specs.Gtids.{IsGtid}
 use Rattle.name_forms.specs.Ids.{last_u64}
 use Rattle.gtid_sets.specs.Canonical.{IsCanonical, IsNumber, IsUuid}
-use Rattle.gtid_sets.specs.Sets.{Gtids, has}
+use Rattle.gtid_sets.specs.Sets.{Gtids}
 use Rattle.gtid_sets.specs.declared.told.ToldSet.{ToldSet}
 use Rattle.key_items.specs.declared.item.KeptItem.{KeptItem}
 use Rattle.txn_forms.specs.declared.body.Body.{Body}
@@ -25,7 +24,7 @@ use Rattle.group_rules.specs.declared.marks.Effect.{Effect}
 use Rattle.group_rules.specs.declared.marks.Effect.TheVariants.{Plain, Void, Unread, Positive, Conflict}
 use Rattle.group_rules.specs.Events.{Cert, Entry, Life, Setup}
 use Rattle.group_rules.specs.Life.{cert_by}
-use Rattle.group_rules.specs.Certifier.{Certifier, certified_by, forget, forget_stable, opens_block, with_last, with_positive, written_by}
+use Rattle.group_rules.specs.Certifier.{Certifier, certified_by, forget_stable, opens_block, with_last, with_positive}
 use Rattle.group_rules.specs.Parts.{open_after}
 use Rattle.group_rules.specs.Told.{stable, tells, told_after, with_told}
 use Rattle.member_ranges.specs.Lives.{IsHolding}

@@ -1,9 +1,8 @@
 -- Incarnations in ascending order, each in its range.
-use Rattle.std.proofs.Common.{◌≡◌, ◌⊎◌, inl, inr, ℕ, zero, suc, ◌+◌, ◌≤◌, Bool, true, false, not, Option, Some, None, List, [], ◌∷◌, ◌++◌, refl, sym, ap, subst, ◌∙◌, arith, length}
-use Rattle.std.specs.Prelude.{map, filter}
-use Rattle.std.proofs.lemmas.Bool.{false≢true}
+use Rattle.std.proofs.Common.{◌≡◌, inl, inr, ℕ, suc, ◌≤◌, Bool, true, false, not, Option, Some, None, List, [], ◌∷◌, refl, ap, subst, arith, length}
+use Rattle.std.specs.Prelude.{filter}
 use Rattle.byte_forms.specs.Lists.{IsChain}
-use Rattle.gr_ids.specs.Names.{inc_eq, inc_lt, has_inc}
+use Rattle.gr_ids.specs.Names.{inc_eq, inc_lt}
 use Rattle.gr_ids.specs.declared.names.Inc.{Inc}
 use Rattle.name_forms.specs.Incs.{IsInc, IsIncAfter}
 use Rattle.slot_values.specs.Log.{incs, counted, with_inc, with_member, without}

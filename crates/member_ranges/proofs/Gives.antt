@@ -1,15 +1,14 @@
 -- What a member gives can be spelt, and so can what its server keeps.
-use Rattle.std.proofs.Common.{◌≡◌, ◌⊎◌, inl, inr, ℕ, suc, ◌+◌, ◌≤◌, ◌<◌, Bool, true, false, not, Option, Some, None, IfSome, List, [], ◌∷◌, ◌++◌, refl, sym, ap, subst, ◌∙◌, arith, length, leb}
+use Rattle.std.proofs.Common.{◌≡◌, ◌⊎◌, inl, inr, ℕ, suc, ◌≤◌, Bool, true, false, not, Option, Some, None, IfSome, List, [], ◌∷◌, refl, sym, ap, subst, ◌∙◌, arith, length}
 use Rattle.std.specs.Prelude.{filter, map, nat_le, nat_lt}
 use Rattle.std.proofs.lemmas.Bool.{leb-true}
 use Rattle.byte_forms.specs.Lists.{IsChain}
-use Rattle.gr_ids.specs.Names.{gtid_eq, inc_eq}
+use Rattle.gr_ids.specs.Names.{inc_eq}
 use Rattle.gr_ids.specs.declared.names.Inc.{Inc}
 use Rattle.gr_ids.specs.declared.names.LastNumber.{LastNumber}
 use Rattle.gr_ids.specs.declared.names.OpenParts.{OpenParts}
-use Rattle.name_forms.specs.Gtids.{IsGtid}
 use Rattle.name_forms.specs.Ids.{last_u64}
-use Rattle.name_forms.specs.Incs.{IsInc, IsIncAfter}
+use Rattle.name_forms.specs.Incs.{IsIncAfter}
 use Rattle.name_forms.specs.OpenParts.{IsOpenAfter, inc_of_parts}
 use Rattle.gtid_sets.specs.Canonical.{IsCanonical}
 use Rattle.gtid_sets.specs.Sets.{Gtids, has}
@@ -22,23 +21,22 @@ use Rattle.paxos_forms.specs.declared.recovery.Give.{Give}
 use Rattle.paxos_forms.specs.declared.recovery.Given.{Given}
 use Rattle.node_rules.specs.Lists.{In}
 use Rattle.node_rules.specs.declared.seat.Seat.{Seat}
-use Rattle.order_laws.proofs.Lists.{in_append, in_filter}
-use Rattle.group_rules.specs.Events.{Cert, Entry, Life, Setup, Stored, Took}
-use Rattle.group_rules.specs.Life.{certs, entry_at, stored, taken, upto, view}
+use Rattle.order_laws.proofs.Lists.{in_filter}
+use Rattle.group_rules.specs.Events.{Cert, Entry, Life, Setup, Took}
+use Rattle.group_rules.specs.Life.{certs, entry_at, stored, upto, view}
 use Rattle.group_rules.specs.Certifier.{certifier, last_of, numbers_of}
 use Rattle.group_rules.specs.Member.{Member}
 use Rattle.group_rules.specs.Parts.{open_parts}
 use Rattle.group_rules.specs.Recovery.{all_parts, give_of, given_of, gtids_of}
 use Rattle.group_rules.specs.Rows.{all_in, known, with_cert}
 use Rattle.group_rules.specs.Told.{sets_of, told, told_of}
-use Rattle.group_rules.specs.View.{View, is_online_state, online_incs, online_seats, seated}
-use Rattle.group_rules.specs.World.{committed_of, stored_by}
+use Rattle.group_rules.specs.View.{is_online_state, online_incs, seated}
 use Rattle.member_truth.specs.Truth.{IsTrue, Rise}
 use Rattle.member_ranges.specs.Giving.{give_at_entry}
 use Rattle.member_ranges.specs.Lives.{AllFit, AreGivable, IsGivable}
 use Rattle.member_ranges.specs.Ranges.{InRange}
-use Rattle.member_ranges.proofs.Chains.{Ascend, after_inc, ascend_below, filter_shorter}
-use Rattle.member_ranges.proofs.Histories.{Facts, Upto, facts, upto_entry}
+use Rattle.member_ranges.proofs.Chains.{Ascend, ascend_below, filter_shorter}
+use Rattle.member_ranges.proofs.Histories.{Facts, facts, upto_entry}
 
 -- ---- last numbers, told sets and open parts of ascending members
 
@@ -168,9 +166,10 @@ given_chain : (p : ℕ) (cs : List Cert) (b : Option Given) → Rise cs → ((c 
 given_chain p [] b r f = tt
 given_chain p (c ∷ cs) b r f =
     let k = f c (inl refl) in
-    let g = k.0 in
-    (record { above = k.2; below = k.1; origin = g.origin; gtid = record { source = g.source.long; number_above = g.number.0; number_below = g.number.1 }; body = g.body },
-    given_chain p cs (Some (given_of c)) r.1 (λ d q. let z = f d (inr q) in let a = r.0 d q in (z.0, z.1, omega (arith, a))))
+    let g = k.0 in (
+      record { above = k.2; below = k.1; origin = g.origin; gtid = record { source = g.source.long; number_above = g.number.0; number_below = g.number.1 }; body = g.body },
+      given_chain p cs (Some (given_of c)) r.1 (λ d q. let z = f d (inr q) in let a = r.0 d q in (z.0, z.1, omega (arith, a))),
+    )
 
 in_holds : (p : Cert → Bool) (cs : List Cert) (c : Cert) → In c (filter p cs) → p c ≡ true
 in_holds p [] c h = absurd h
@@ -251,5 +250,5 @@ give_is a p e set k t h =
     let u = upto_entry a.setup a.me.inc a.life p e h k.life t in
     let same : upto a.life e.place ≡ Took e ∷ u.before = ap (λ q. upto a.life q) u.place ∙ u.history in
     subst (λ l. length (give_of a.setup l (filter (λ c. nat_le c.place e.place) (known a.life)) e.place set).items ≤ last_u32 → length (give_of a.setup l (filter (λ c. nat_le c.place e.place) (known a.life)) e.place set).txns ≤ last_u32
-      → IsGive (give_of a.setup l (filter (λ c. nat_le c.place e.place) (known a.life)) e.place set)) (sym same)
+    → IsGive (give_of a.setup l (filter (λ c. nat_le c.place e.place) (known a.life)) e.place set)) (sym same)
     (given a.setup a.me.inc a.life k.life t e set u.before u.fits u.holds)

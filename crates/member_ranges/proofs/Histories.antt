@@ -1,5 +1,5 @@
 -- What follows from a history that fits: what its certifier, its told sets and its open parts are, and what it has certified.
-use Rattle.std.proofs.Common.{◌≡◌, ◌⊎◌, inl, inr, ℕ, suc, ◌+◌, ◌≤◌, ◌<◌, Bool, true, false, Option, Some, None, IfSome, List, [], ◌∷◌, ◌++◌, reverse, refl, sym, ap, subst, ◌∙◌, arith, length}
+use Rattle.std.proofs.Common.{◌≡◌, inl, inr, ℕ, ◌≤◌, Bool, true, false, Option, Some, None, IfSome, List, [], ◌∷◌, reverse, refl, sym, ap, subst, ◌∙◌, arith, length}
 use Rattle.std.specs.Prelude.{◌==◌}
 use Rattle.std.proofs.lemmas.Bool.{eqb-true}
 use Rattle.std.proofs.lemmas.List.{reverse-append}
@@ -12,7 +12,7 @@ use Rattle.gr_ids.specs.declared.names.OpenParts.{OpenParts}
 use Rattle.name_forms.specs.Ids.{last_u64}
 use Rattle.name_forms.specs.Incs.{IsInc}
 use Rattle.name_forms.specs.OpenParts.{IsOpenAfter}
-use Rattle.gtid_sets.specs.Canonical.{IsCanonical, IsNumber, IsUuid}
+use Rattle.gtid_sets.specs.Canonical.{IsCanonical}
 use Rattle.gtid_sets.specs.declared.told.ToldSet.{ToldSet}
 use Rattle.slot_values.specs.Slots.{last_slot}
 use Rattle.slot_values.specs.Spelling.{last_u32}
@@ -22,7 +22,7 @@ use Rattle.txn_forms.specs.declared.body.Body.TheVariants.{Txn as Writes, Prepar
 use Rattle.txn_forms.specs.Bodies.{body_bytes, read_body}
 use Rattle.txn_forms.specs.Parts.{parts_of}
 use Rattle.txn_forms.proofs.OpenPlaces.{IsOpenFor, parts_open}
-use Rattle.paxos_forms.specs.Gives.{IsGive, IsGivenAfter, IsLastAfter, IsToldAfter, place_above}
+use Rattle.paxos_forms.specs.Gives.{IsGivenAfter, IsLastAfter, IsToldAfter, place_above}
 use Rattle.paxos_forms.specs.declared.recovery.Give.{Give}
 use Rattle.paxos_forms.specs.declared.recovery.Given.{Given}
 use Rattle.paxos_forms.specs.declared.welcome.Welcome.{Welcome}
@@ -36,7 +36,7 @@ use Rattle.group_rules.specs.Parts.{open_after, open_parts}
 use Rattle.group_rules.specs.Recovery.{cert_given, cert_read, certs_given}
 use Rattle.group_rules.specs.Told.{told}
 use Rattle.member_truth.specs.Truth.{IsTrue, IsTrueEntry, IsTrueGive}
-use Rattle.member_ranges.specs.Lives.{AllFit, IsHolding, AreGivable, IsGivable, IsInPlace, IsTakenUp}
+use Rattle.member_ranges.specs.Lives.{AllFit, IsHolding, AreGivable, IsInPlace, IsTakenUp}
 use Rattle.member_ranges.proofs.Certified.{IsCertifier, IsNumbered, cert_is, certified_is, certifier_later, forgotten_is, parts_are, told_is}
 use Rattle.member_ranges.proofs.Holding.{read_holding}
 

@@ -1,5 +1,5 @@
 -- What a place holds can be spelt.
-use Rattle.std.proofs.Common.{◌≡◌, ℕ, ◌≤◌, Bool, true, false, ◌&&◌, Option, Some, None, List, [], ◌∷◌, ◌++◌, ltb, leb, refl, sym, ap, subst, ◌∙◌, arith, length}
+use Rattle.std.proofs.Common.{◌≡◌, ℕ, ◌≤◌, Bool, true, false, Option, Some, None, List, [], ◌∷◌, ◌++◌, ltb, leb, refl, subst, ◌∙◌, arith, length}
 use Rattle.std.proofs.lemmas.Bool.{and_parts, leb-true}
 use Rattle.std.proofs.lemmas.List.{append-nil}
 use Rattle.byte_forms.specs.Reads.{Read, Got, Fault, at_end, go_on, value_of}

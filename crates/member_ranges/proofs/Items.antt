@@ -1,5 +1,5 @@
 -- The items that a certifier keeps ascend, each in its range.
-use Rattle.std.proofs.Common.{◌≡◌, inl, inr, ℕ, suc, ◌≤◌, Bool, true, false, not, Option, Some, None, List, [], ◌∷◌, refl, sym, ap, subst, ◌∙◌, arith}
+use Rattle.std.proofs.Common.{◌≡◌, inl, inr, ℕ, ◌≤◌, Bool, true, false, not, Option, Some, None, List, [], ◌∷◌, refl, sym, subst, arith}
 use Rattle.std.specs.Prelude.{filter}
 use Rattle.byte_forms.specs.Lists.{IsChain}
 use Rattle.gr_ids.specs.declared.names.Gtid.{Gtid}
@@ -7,7 +7,6 @@ use Rattle.name_forms.specs.Gtids.{IsGtid}
 use Rattle.gtid_sets.specs.Sets.{Gtids, has}
 use Rattle.key_items.specs.declared.item.Item.{Item}
 use Rattle.key_items.specs.declared.item.KeptItem.{KeptItem}
-use Rattle.key_items.specs.Items.{item_eq, item_lt}
 use Rattle.key_items.specs.Spelling.{IsItem, IsItemAfter}
 use Rattle.key_items.proofs.Order.{Above, Below, Same, Stands, item_eq_same, item_lt_trans, stands}
 use Rattle.paxos_forms.specs.Gives.{IsKeptAfter, item_of_kept}

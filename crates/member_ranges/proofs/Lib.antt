@@ -15,3 +15,4 @@ pub mod Sent
 pub mod Certified
 pub mod Histories
 pub mod Gives
+pub mod Stored

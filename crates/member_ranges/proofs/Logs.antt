@@ -1,17 +1,15 @@
 -- What a node knows of the log: of the founding, one slot more, some configurations fewer, and what a Welcome tells.
-use Rattle.std.proofs.Common.{◌≡◌, ◌⊎◌, inl, inr, ℕ, zero, suc, ◌+◌, ◌-◌, ◌≤◌, ◌<◌, Bool, true, false, not, cond, ◌&&◌, ◌||◌, Option, Some, None, List, [], ◌∷◌, ◌++◌, ltb, eqb, refl, sym, ap, subst, ◌∙◌, arith, length}
-use Rattle.std.specs.Prelude.{map, filter, drop, replicate, nat_lt, ◌==◌}
-use Rattle.std.specs.List.{list_any}
+use Rattle.std.proofs.Common.{◌≡◌, inl, inr, ℕ, zero, suc, ◌+◌, ◌-◌, ◌≤◌, Bool, true, false, not, cond, ◌&&◌, ◌||◌, None, List, [], ◌∷◌, refl, sym, ap, subst, ◌∙◌, arith, length}
+use Rattle.std.specs.Prelude.{drop, replicate, nat_lt, ◌==◌}
 use Rattle.std.proofs.lemmas.Bool.{false≢true, and_parts, cond_both, eqb-true, ltb-true, not-true}
 use Rattle.std.proofs.lemmas.Bool.Decides.{nat_tests}
 use Rattle.std.proofs.lemmas.List.{length-append, length-drop, length-map, length-replicate}
-use Rattle.byte_forms.specs.Lists.{IsChain}
 use Rattle.gr_ids.specs.Names.{inc_eq, inc_lt, has_inc}
 use Rattle.gr_ids.specs.declared.names.Inc.{Inc}
-use Rattle.name_forms.specs.Incs.{IsInc, IsIncAfter}
+use Rattle.name_forms.specs.Incs.{IsInc}
 use Rattle.slot_values.specs.Values.{is_noop}
 use Rattle.slot_values.specs.Spelling.{IsValue, IsWhat}
-use Rattle.slot_values.specs.Log.{Group, Reading, Turns, incs, counted, with_inc, with_member, without, is_next, is_kept, has_effect, has_server, changed, kept, read, turn, first_turns, forget_configs, founded}
+use Rattle.slot_values.specs.Log.{Group, Reading, Turns, incs, counted, with_member, is_next, is_kept, has_effect, has_server, changed, kept, read, turn, first_turns, forget_configs}
 use Rattle.slot_values.specs.declared.member.Member.{Member}
 use Rattle.slot_values.specs.declared.value.Joiner.{Joiner}
 use Rattle.slot_values.specs.declared.value.Value.{Value}
@@ -21,7 +19,7 @@ use Rattle.slot_values.proofs.Effects.{incs_of_founders}
 use Rattle.node_rules.specs.Lists.{In}
 use Rattle.order_laws.proofs.Lists.{in_push, in_filter, in_map}
 use Rattle.member_ranges.specs.Logs.{AreFew, IsLog}
-use Rattle.member_ranges.proofs.Chains.{Ascend, ascend_with, ascend_filter, ascend_none, incs_counted, incs_without, incs_with, length_with, filter_shorter}
+use Rattle.member_ranges.proofs.Chains.{Ascend, ascend_with, ascend_filter, incs_counted, incs_without, incs_with, length_with, filter_shorter}
 
 -- ---- one value read
 
@@ -140,7 +138,7 @@ unfolding read
 read_reading r v i k =
     cond_both (is_kept r v) (cond (has_effect r v.what) (changed (kept r v) v.what) (kept r v)) r (λ (x : Reading). IsReading x)
     (λ e. cond_both (has_effect r v.what) (changed (kept r v) v.what) (kept r v) (λ (x : Reading). IsReading x)
-      (λ f. reading_with r v v.what i.what f (kept_reading r v e k)) (λ f. kept_reading r v e k))
+    (λ f. reading_with r v v.what i.what f (kept_reading r v e k)) (λ f. kept_reading r v e k))
     (λ e. k)
 
 -- ---- what is known of the log

@@ -1,30 +1,28 @@
 -- Each row of a node but the Welcome leaves its log, and what it has promised and decided rises.
-use Rattle.std.proofs.Common.{◌≡◌, ℕ, zero, suc, ◌+◌, ◌-◌, ◌^◌, ◌≤◌, Bool, true, false, not, cond, ◌||◌, ◌&&◌, Option, Some, None, List, [], ◌∷◌, ◌++◌, ltb, eqb, refl, sym, ap, subst, ◌∙◌, arith}
+use Rattle.std.proofs.Common.{◌≡◌, ℕ, zero, suc, ◌-◌, ◌^◌, ◌≤◌, Bool, true, false, not, cond, ◌||◌, Option, Some, None, List, [], ◌∷◌, ◌++◌, ltb, eqb, refl, sym, subst, ◌∙◌, arith}
 use Rattle.std.specs.Prelude.{is_some, fold}
 use Rattle.std.proofs.lemmas.Bool.{cond_both, eqb-true, false≢true, ltb-false}
-use Rattle.gr_ids.specs.Names.{ballot_eq, ballot_lt, inc_eq, inc_lt, has_inc}
+use Rattle.gr_ids.specs.Names.{ballot_eq, ballot_lt, has_inc}
 use Rattle.gr_ids.specs.declared.names.Inc.{Inc}
 use Rattle.gr_ids.specs.declared.names.Ballot.{Ballot}
 use Rattle.slot_values.specs.Log.{Turns}
 use Rattle.slot_values.specs.declared.value.Value.{Value}
 use Rattle.slot_values.specs.declared.value.Vote.{Vote}
-use Rattle.paxos_forms.specs.declared.message.Message.{Message}
 use Rattle.paxos_forms.specs.declared.message.Wire.{Wire}
 use Rattle.paxos_forms.specs.declared.message.Wire.TheVariants.{Prepare, Promise, Accept, Accepted, Learn, Offer, Ask, Give, Alive, Gone}
 use Rattle.paxos_forms.specs.declared.message.Wire.TheVariants.{Welcome as Greet}
 use Rattle.node_rules.specs.declared.event.PaxosEvent.{PaxosEvent}
 use Rattle.node_rules.specs.declared.event.PaxosEvent.TheVariants.{Heard, Own, Campaign, Tick, Propose}
-use Rattle.node_rules.specs.Acceptor.{promising, votes_from}
-use Rattle.node_rules.specs.Known.{members_by, config_here, last_by}
-use Rattle.node_rules.specs.Leader.{Leader, Proposal, Choice, new_leader, proposal_at, keep_promise, take_offer, choice, proposing, accepted_by, count_accepted, has_majority}
+use Rattle.node_rules.specs.Acceptor.{votes_from}
+use Rattle.node_rules.specs.Known.{members_by, last_by}
+use Rattle.node_rules.specs.Leader.{Leader, Proposal, Choice, proposal_at, keep_promise, take_offer, choice, proposing, accepted_by, count_accepted, has_majority}
 use Rattle.node_rules.specs.Learner.{Learner, is_decided, learn, advanced}
 use Rattle.node_rules.specs.Learning.{learns, hear_learn, settles, counts, lead_accepted, hear_accepted, tells, learns_from, hear_alive}
-use Rattle.node_rules.specs.Lists.{union}
-use Rattle.node_rules.specs.Node.{Node, Effect, quiet, sends, also, message, to_others, leads}
-use Rattle.node_rules.specs.Proposing.{decided_above, proposes, propose_choice, lead_propose, propose_one, propose_times, propose_all, lead_promise, hear_promise, offers_out, offers, lead_offers, own_value, lead_offer, hear_offer, audience, next_ballot, campaign}
+use Rattle.node_rules.specs.Node.{Node, Effect, quiet, sends, also, message, leads}
+use Rattle.node_rules.specs.Proposing.{decided_above, proposes, propose_choice, lead_propose, propose_one, propose_times, propose_all, lead_promise, hear_promise, offers, own_value, lead_offer, hear_offer, campaign}
 use Rattle.node_rules.specs.Slots.{put_slot}
 use Rattle.node_rules.specs.Step.{hear, row}
-use Rattle.node_rules.specs.Ticks.{lead_tick, tick}
+use Rattle.node_rules.specs.Ticks.{tick}
 use Rattle.node_rules.specs.Voting.{promises, votes, gone_to, hear_prepare, hear_accept}
 use Rattle.order_laws.proofs.Leads.{learn_up}
 use Rattle.member_ranges.specs.Hearing.{greets, is_welcome}

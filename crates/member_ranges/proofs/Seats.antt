@@ -1,10 +1,9 @@
 -- The seats of a view are those of the members of the kept list, entry by entry.
-use Rattle.std.proofs.Common.{◌≡◌, inl, inr, ℕ, suc, ◌+◌, Bool, true, false, cond, not, ◌&&◌, Option, Some, None, List, [], ◌∷◌, refl, sym, ap, subst, ◌∙◌}
+use Rattle.std.proofs.Common.{◌≡◌, ℕ, Bool, true, false, not, ◌&&◌, Option, Some, None, List, [], ◌∷◌, refl, sym, ap, ◌∙◌}
 use Rattle.std.specs.Prelude.{filter, map, if◌then◌else◌}
 use Rattle.std.proofs.lemmas.Bool.{and_parts, cond_both, false≢true, not-true}
 use Rattle.gr_ids.specs.Names.{inc_eq, inc_lt}
 use Rattle.gr_ids.specs.declared.names.Inc.{Inc}
-use Rattle.gr_ids.specs.declared.names.OpenParts.{OpenParts}
 use Rattle.gr_ids.specs.declared.levels.MemberState.TheVariants.{Online, Recovering}
 use Rattle.gr_ids.specs.declared.levels.Mode.TheVariants.{Single}
 use Rattle.node_rules.specs.declared.seat.Seat.{Seat}

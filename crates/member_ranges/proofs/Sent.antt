@@ -1,5 +1,5 @@
 -- What a member tells a joiner, and what it asks.
-use Rattle.std.proofs.Common.{◌≡◌, ◌⊎◌, inl, inr, ℕ, suc, ◌+◌, ◌-◌, ◌≤◌, ◌<◌, Bool, true, false, ◌||◌, ◌&&◌, Option, Some, None, List, [], ◌∷◌, refl, sym, ap, subst, ◌∙◌, arith, length}
+use Rattle.std.proofs.Common.{◌≡◌, inl, inr, ℕ, ◌-◌, ◌≤◌, Bool, true, false, ◌||◌, ◌&&◌, Option, Some, None, List, [], ◌∷◌, refl, sym, ap, subst, ◌∙◌, arith, length}
 use Rattle.std.specs.Prelude.{drop, map}
 use Rattle.std.specs.List.{AllByRecursion, list_all, list_any}
 use Rattle.std.proofs.lemmas.Bool.{false≢true}
@@ -9,9 +9,8 @@ use Rattle.gr_ids.specs.Names.{inc_eq}
 use Rattle.gr_ids.specs.declared.names.Ballot.{Ballot}
 use Rattle.gr_ids.specs.declared.names.Inc.{Inc}
 use Rattle.name_forms.specs.Ballots.{IsBallot}
-use Rattle.name_forms.specs.Incs.{IsInc, IsIncAfter}
+use Rattle.name_forms.specs.Incs.{IsInc}
 use Rattle.gtid_sets.specs.Canonical.{IsCanonical}
-use Rattle.slot_values.specs.Joiners.{IsJoiner}
 use Rattle.slot_values.specs.Log.{Turns, incs}
 use Rattle.slot_values.specs.Spelling.{IsValue, last_u32}
 use Rattle.slot_values.specs.declared.member.Member.{Member as LogMember}
@@ -20,16 +19,15 @@ use Rattle.paxos_forms.specs.Welcomes.{IsConfig, IsMemberAfter, IsWelcome, inc_b
 use Rattle.paxos_forms.specs.declared.welcome.WelcomeMember.{WelcomeMember}
 use Rattle.node_rules.proofs.Incs.{inc_same}
 use Rattle.node_rules.specs.Lists.{In}
-use Rattle.node_rules.specs.Node.{Node}
 use Rattle.node_rules.specs.Welcoming.{welcome_of}
 use Rattle.node_rules.specs.declared.seat.Seat.{Seat}
-use Rattle.paxos_ranges.specs.Ranges.{AreIncs, IsPromise}
+use Rattle.paxos_ranges.specs.Ranges.{IsPromise}
 use Rattle.group_rules.specs.Life.{executed, is_error, is_recovering, state, taken, view}
 use Rattle.group_rules.specs.Member.{Member}
 use Rattle.group_rules.specs.Recovery.{add_place, ask_wire}
 use Rattle.group_rules.specs.Steps.{add_of}
 use Rattle.group_rules.specs.View.{View, is_seated, seat_in, seated, shown}
-use Rattle.member_ranges.specs.Logs.{HasLog, IsLog}
+use Rattle.member_ranges.specs.Logs.{HasLog}
 use Rattle.member_ranges.specs.Ranges.{InRange, IsSeat, Shows}
 use Rattle.member_ranges.proofs.Chains.{Ascend}
 use Rattle.member_ranges.proofs.Logs.{in_drop}
@@ -80,9 +78,10 @@ told_chain : (ss : List Seat) (p : ℕ) (ms : List LogMember) (b : Option Welcom
 told_chain ss p [] b up f = tt
 told_chain ss p (m ∷ ms) b up f =
     let k = f m (inl refl) in
-    let j = (k.0).0 in
-    (record { joiner = record { inc = up.0; uuid = j.uuid; parts = j.parts; small = j.small; weight = j.weight }; state = (k.0).1; last = k.1 },
-    told_chain ss p ms (Some (told_member ss m)) up.1 (λ x q. f x (inr q)))
+    let j = (k.0).0 in (
+      record { joiner = record { inc = up.0; uuid = j.uuid; parts = j.parts; small = j.small; weight = j.weight }; state = (k.0).1; last = k.1 },
+      told_chain ss p ms (Some (told_member ss m)) up.1 (λ x q. f x (inr q)),
+    )
 
 in_incs : (ms : List LogMember) (m : LogMember) → In m ms → In m.inc (incs ms)
 in_incs [] m h = absurd h

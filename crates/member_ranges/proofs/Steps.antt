@@ -1,5 +1,5 @@
 -- The log of a node after a step, a Welcome, and a slot that is taken.
-use Rattle.std.proofs.Common.{◌≡◌, ◌⊎◌, inl, inr, ℕ, ◌+◌, ◌-◌, ◌≤◌, ◌<◌, Bool, true, false, not, cond, ◌&&◌, Option, Some, None, List, [], ◌∷◌, ◌++◌, ltb, eqb, refl, sym, ap, subst, ◌∙◌, arith, length}
+use Rattle.std.proofs.Common.{◌≡◌, ◌⊎◌, inl, inr, ℕ, ◌+◌, ◌≤◌, ◌<◌, Bool, true, false, not, cond, ◌&&◌, Option, Some, None, List, [], ◌∷◌, ◌++◌, ltb, eqb, refl, sym, ap, subst, ◌∙◌, arith, length}
 use Rattle.std.specs.Prelude.{is_some, fold, min, option_map}
 use Rattle.std.proofs.lemmas.Bool.{and_parts, cond_both, eqb-true, false≢true, ltb-false}
 use Rattle.gr_ids.specs.Names.{ballot_lt}
@@ -7,13 +7,12 @@ use Rattle.gr_ids.specs.declared.names.Ballot.{Ballot}
 use Rattle.slot_values.specs.Spelling.{IsValue}
 use Rattle.slot_values.specs.Log.{Reading, Turns, became, forget_configs, read, turn}
 use Rattle.slot_values.specs.Turns.{resumed}
-use Rattle.slot_values.specs.declared.value.Value.{Value}
 use Rattle.paxos_forms.specs.Welcomes.{IsWelcome}
 use Rattle.paxos_forms.specs.declared.message.Message.{Message}
 use Rattle.paxos_forms.specs.declared.message.Wire.TheVariants.{Welcome as Greet}
 use Rattle.paxos_forms.specs.declared.welcome.Welcome.{Welcome}
 use Rattle.node_rules.specs.Acceptor.{forget_votes}
-use Rattle.node_rules.specs.Learner.{Learner, advanced, decided_at, forget_decided, next_entry}
+use Rattle.node_rules.specs.Learner.{decided_at, forget_decided, next_entry}
 use Rattle.node_rules.specs.Leader.{forget_proposals}
 use Rattle.node_rules.specs.Node.{Effect, Node, Told, also, quiet}
 use Rattle.node_rules.specs.Slots.{Entry}
@@ -28,7 +27,7 @@ use Rattle.order_laws.proofs.Lists.{at_slot-in}
 use Rattle.order_laws.proofs.Takes.{next-entry}
 use Rattle.paxos_ranges.specs.Ranges.{IsInRange}
 use Rattle.member_ranges.specs.Hearing.{is_welcome}
-use Rattle.member_ranges.specs.Logs.{HasLog, IsLog}
+use Rattle.member_ranges.specs.Logs.{HasLog}
 use Rattle.member_ranges.proofs.Greeted.{log_told}
 use Rattle.member_ranges.proofs.Logs.{log_forget, log_turn}
 use Rattle.member_ranges.proofs.Nodes.{Onward, has_on, on_row}
@@ -159,9 +158,9 @@ hears_welcome : (x : Welcome) (n : Node) → IsWelcome x → Logged n → Greets
 unfolding hear_welcome
 hears_welcome x n k l = cond_both (test_of x n) (quiet (welcomed n x)) (quiet n) (λ (e : Effect). Greets x n e.node)
     (λ e.
-      let t = and_parts (not (is_some n.turns)) (is_in_order x && is_for x n.me n.horizon) e in
-      let s = and_parts (is_in_order x) (is_for x n.me n.horizon) t.1 in
-      record { me = refl; horizon = refl; logged = welcomed_logged x n k s.0 s.1; either = inl (record { unread = none_of n.turns t.0; order = s.0; for = s.1; reading = refl }) })
+    let t = and_parts (not (is_some n.turns)) (is_in_order x && is_for x n.me n.horizon) e in
+    let s = and_parts (is_in_order x) (is_for x n.me n.horizon) t.1 in
+    record { me = refl; horizon = refl; logged = welcomed_logged x n k s.0 s.1; either = inl (record { unread = none_of n.turns t.0; order = s.0; for = s.1; reading = refl }) })
     (λ e. record { me = refl; horizon = refl; logged = l; either = inr (e, refl) })
 
 greets_on : (x : Welcome) (n m k : Node) → Greets x n m → Same m k → Logged k → Greets x n k

@@ -1,6 +1,6 @@
 -- A slot is taken by the node and the member.
-use Rattle.std.proofs.Common.{◌≡◌, inl, inr, ℕ, suc, ◌+◌, ◌≤◌, ◌<◌, Bool, true, false, Option, Some, None, List, [], ◌∷◌, ◌++◌, refl, sym, ap, subst, ◌∙◌, arith}
-use Rattle.std.specs.Prelude.{is_some, if◌then◌else◌}
+use Rattle.std.proofs.Common.{◌≡◌, ℕ, ◌+◌, ◌≤◌, Bool, true, false, Some, None, List, ◌∷◌, refl, sym, ap, subst, ◌∙◌, arith}
+use Rattle.std.specs.Prelude.{if◌then◌else◌}
 use Rattle.std.proofs.lemmas.Bool.{false≢true}
 use Rattle.slot_values.specs.Log.{Reading, Turns, became, changed, has_effect, incs, is_kept, kept, read}
 use Rattle.slot_values.specs.Slots.{last_slot}
@@ -16,22 +16,21 @@ use Rattle.node_rules.specs.declared.taken.Taken.{Taken}
 use Rattle.paxos_ranges.specs.Ranges.{IsInRange}
 use Rattle.paxos_ranges.proofs.Rows.{take_in_range}
 use Rattle.paxos_forms.specs.declared.message.Message.{Message}
-use Rattle.paxos_forms.specs.declared.welcome.Welcome.{Welcome}
-use Rattle.group_rules.specs.Events.{Entry, Life, Skips, Took}
-use Rattle.group_rules.specs.Life.{has_give, is_error, is_offline, is_up, state, taken, view}
+use Rattle.group_rules.specs.Events.{Entry, Skips, Took}
+use Rattle.group_rules.specs.Life.{has_give, is_error, is_up, state, taken, view}
 use Rattle.group_rules.specs.Member.{Member, by_node, push}
 use Rattle.group_rules.specs.Parts.{open_parts}
 use Rattle.group_rules.specs.Taking.{entry_of, takes_slots}
 use Rattle.group_rules.specs.View.{seated}
-use Rattle.member_ranges.specs.Logs.{AreFew, HasLog}
+use Rattle.member_ranges.specs.Logs.{AreFew}
 use Rattle.member_ranges.specs.Lives.{AreSeated, IsHolding}
-use Rattle.member_ranges.specs.Ranges.{InRange, IsWaiting, Shows, is_outside}
+use Rattle.member_ranges.specs.Ranges.{InRange, Shows, is_outside}
 use Rattle.member_ranges.specs.Taking.{entered_by, takes_on}
 use Rattle.member_ranges.proofs.Chains.{Ascend}
 use Rattle.member_ranges.proofs.Holding.{held_holding}
 use Rattle.member_ranges.proofs.Passed.{moved, passed, ready}
 use Rattle.member_ranges.proofs.Seats.{entry_seats}
-use Rattle.member_ranges.proofs.Steps.{Logged, Same, TakesNext, reading_by, takes_next, turns_of}
+use Rattle.member_ranges.proofs.Steps.{Logged, TakesNext, reading_by, takes_next, turns_of}
 use Rattle.member_ranges.proofs.Views.{next_is_view}
 
 -- ---- what a value becomes
@@ -152,7 +151,7 @@ module _ (t : Taken) (a : Member) (ok : takes_slots a.life ≡ true) (k : InRang
       offline = λ h. absurd (cc (sym next.had ∙ k.offline h));
       before = λ h. absurd (cc (sym next.had ∙ k.offline h));
       welcomed = k.welcomed;
-      waits = λ q w h. absurd (false≢true (sym q ∙ is_ready.2 (k.waits q w h).down));
+      waits = λ q w h. absurd (false≢true (sym q ∙ is_ready.2 ((k.waits q w h).0).down));
       life = (record { above = omega (arith, later); below = below; value = value; holds = holds; seats = seated_now }, k.life);
     }
 

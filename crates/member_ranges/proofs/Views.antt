@@ -1,5 +1,5 @@
 -- A view that a Welcome can tell stays one, entry by entry.
-use Rattle.std.proofs.Common.{◌≡◌, ◌⊎◌, inl, inr, ℕ, suc, ◌+◌, ◌≤◌, ◌<◌, Bool, true, false, cond, not, ◌&&◌, Option, Some, None, List, [], ◌∷◌, refl, sym, ap, subst, ◌∙◌, arith}
+use Rattle.std.proofs.Common.{◌≡◌, ◌⊎◌, inl, inr, ℕ, ◌+◌, ◌≤◌, Bool, true, false, not, ◌&&◌, Option, Some, None, List, [], ◌∷◌, refl, sym, subst, arith}
 use Rattle.std.specs.Prelude.{filter, map}
 use Rattle.std.proofs.lemmas.Bool.{cond_both}
 use Rattle.byte_forms.specs.Lists.{IsChain}
@@ -8,7 +8,7 @@ use Rattle.gr_ids.specs.declared.names.Inc.{Inc}
 use Rattle.gr_ids.specs.declared.levels.MemberState.TheVariants.{Online, Recovering}
 use Rattle.gr_ids.specs.declared.levels.Mode.{Mode}
 use Rattle.gr_ids.specs.declared.levels.Mode.TheVariants.{Multi, Single}
-use Rattle.name_forms.specs.Incs.{IsInc, IsIncAfter}
+use Rattle.name_forms.specs.Incs.{IsInc}
 use Rattle.slot_values.specs.Joiners.{IsJoiner, IsJoinerAfter}
 use Rattle.slot_values.specs.Spelling.{IsWhat}
 use Rattle.slot_values.specs.declared.value.Joiner.{Joiner}

@@ -1,10 +1,10 @@
 -- A Welcome comes to the node and the member at once.
-use Rattle.std.proofs.Common.{◌≡◌, ◌≤◌, inl, inr, ℕ, arith, Bool, true, false, not, ◌||◌, ◌&&◌, Option, Some, None, List, [], ◌∷◌, ◌++◌, refl, sym, ap, subst, ◌∙◌}
+use Rattle.std.proofs.Common.{◌≡◌, inl, inr, arith, Bool, true, false, not, ◌&&◌, Option, Some, None, List, [], ◌∷◌, refl, sym, ap, subst, ◌∙◌}
 use Rattle.std.specs.Prelude.{is_some, map}
 use Rattle.std.proofs.lemmas.Bool.{and_parts, false≢true}
 use Rattle.gr_ids.specs.declared.levels.MemberState.{MemberState}
 use Rattle.gr_ids.specs.declared.levels.MemberState.TheVariants.{Offline, Recovering, Online, Error}
-use Rattle.slot_values.specs.Log.{Reading, Turns, incs}
+use Rattle.slot_values.specs.Log.{Reading, Turns}
 use Rattle.slot_values.specs.Turns.{resumed}
 use Rattle.paxos_forms.specs.Messages.{IsMessage, IsWire}
 use Rattle.paxos_forms.specs.Welcomes.{IsWelcome}
@@ -20,16 +20,16 @@ use Rattle.node_rules.specs.declared.seat.Seat.{Seat}
 use Rattle.paxos_ranges.specs.Ranges.{IsInRange}
 use Rattle.paxos_ranges.proofs.Rows.{step_in_range}
 use Rattle.group_rules.specs.declared.marks.Cause.TheVariants.{Welcomed}
-use Rattle.group_rules.specs.Events.{Enters, Is, Life}
-use Rattle.group_rules.specs.Life.{entered, is_error, is_offline, is_recovering, state, taken, view, view_told}
+use Rattle.group_rules.specs.Events.{Enters, Is}
+use Rattle.group_rules.specs.Life.{is_error, is_offline, state, view_told}
 use Rattle.group_rules.specs.Member.{Member, at_node, push}
 use Rattle.group_rules.specs.View.{seated}
 use Rattle.group_rules.specs.Welcomes.{hear_welcome}
-use Rattle.member_ranges.specs.Ranges.{InRange, IsWaiting, Shows, is_outside}
+use Rattle.member_ranges.specs.Ranges.{InRange, IsUntouched, IsWaiting, Shows, is_outside}
 use Rattle.member_ranges.proofs.Greeted.{told_incs}
 use Rattle.member_ranges.proofs.Passed.{moved}
 use Rattle.member_ranges.proofs.Views.{told_is_view}
-use Rattle.member_ranges.proofs.Steps.{Begins, Greets, Logged, Same, reading_by, step_greets, unread}
+use Rattle.member_ranges.proofs.Steps.{Begins, Greets, reading_by, step_greets}
 
 told_seats : (ms : List WelcomeMember) → map {A = WelcomeMember} (λ m. m.joiner.inc) ms ≡ seated (map {A = WelcomeMember} {B = Seat} (λ m. record { joiner = m.joiner; state = m.state }) ms)
 told_seats [] = refl
@@ -63,6 +63,9 @@ module _ (w : Welcome) (i : IsWelcome w) (a : Member) (k : InRange a) (n : Node)
     reading_is : (u : Turns) → n.turns ≡ Some u → (resumed (told_in w)).reading ≡ u.reading
     reading_is u h = some_is (sym b.reading ∙ ap reading_by h)
 
+    still : IsUntouched a.life → IsUntouched (Is Recovering Welcomed ∷ Enters w ∷ a.life)
+    still u = record { certified = u.certified; untaken = u.untaken; undone = u.undone; uncommitted = u.uncommitted }
+
     joined : is_offline (state a.life) ≡ true → InRange (push (Is Recovering Welcomed) (push (Enters w) (record a { node = n; sent = ms })))
     joined off = record {
       setup = k.setup;
@@ -77,8 +80,8 @@ module _ (w : Welcome) (i : IsWelcome w) (a : Member) (k : InRange a) (n : Node)
       offline = λ h. absurd (false≢true h);
       before = λ h. absurd (false≢true h);
       welcomed = λ h. (w, refl, i);
-      waits = λ q u h. subst (λ (z : Welcome). IsWaiting w.place Recovering z) (some_is h) (record { place = refl; down = refl });
-      life = (tt, (record { welcome = i; place = let z = k.before off in omega (arith, z) }, k.life));
+      waits = λ q u h. (subst (λ (z : Welcome). IsWaiting w.place Recovering z) (some_is h) (record { place = refl; down = refl }), still (k.before off).1);
+      life = (tt, (record { welcome = i; place = let z = (k.before off).0 in omega (arith, z) }, k.life));
     }
 
     -- in ERROR the node begins with it alone

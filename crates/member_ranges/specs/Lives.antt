@@ -1,7 +1,6 @@
 -- A history within the ranges of what a member gives to those that join.
-use Rattle.std.specs.Prelude.{◌≡◌, ◌<◌, ◌≤◌, ℕ, Option, Some, None, List, [], ◌∷◌, length}
+use Rattle.std.specs.Prelude.{◌≡◌, ◌<◌, ◌≤◌, Option, Some, None, List, [], ◌∷◌, length}
 use Rattle.byte_forms.specs.Lists.{IsChain}
-use Rattle.gr_ids.specs.declared.names.Inc.{Inc}
 use Rattle.name_forms.specs.Incs.{IsInc, IsIncAfter}
 use Rattle.gtid_sets.specs.Canonical.{IsNumber, IsUuid}
 use Rattle.slot_values.specs.Slots.{last_slot}
@@ -14,7 +13,7 @@ use Rattle.paxos_forms.specs.Welcomes.{IsWelcome}
 use Rattle.paxos_forms.specs.declared.recovery.Give.{Give}
 use Rattle.paxos_forms.specs.declared.welcome.Welcome.{Welcome}
 use Rattle.node_rules.specs.Lists.{In}
-use Rattle.group_rules.specs.Events.{Cert, Did, Enters, Entry, Life, Restores, Setup, Starts, Stored, Took}
+use Rattle.group_rules.specs.Events.{Cert, Did, Enters, Entry, Life, Restores, Setup, Starts, Took}
 use Rattle.group_rules.specs.Life.{taken, view}
 use Rattle.group_rules.specs.Recovery.{certs_given}
 use Rattle.group_rules.specs.View.{View, seated}
