@@ -6,6 +6,7 @@ pub mod Pushed
 pub mod Told
 pub mod Replies
 pub mod Ordered
+pub mod Uncommitted
 pub mod Owned
 pub mod Spelt
 pub mod Came
