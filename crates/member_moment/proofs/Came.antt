@@ -7,7 +7,7 @@ use Rattle.member_parts.proofs.Passed.{passes as parts_pass}
 use Rattle.member_own.specs.Keeping.{Keeps}
 use Rattle.member_own.proofs.Kept.{passes as own_passes}
 use Rattle.member_joining.proofs.Joined.{passes as joining_passes}
-use Rattle.member_ranges.proofs.Within.{said}
+use Rattle.member_ranges.proofs.Passed.{passed as said}
 use Rattle.member_tables.proofs.Kept.{stands_on}
 use Rattle.member_moment.specs.declared.moment.Moment.{Moment}
 use Rattle.member_moment.specs.Arriving.{is_untold}

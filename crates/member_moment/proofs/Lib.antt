@@ -1,4 +1,7 @@
 pub mod Doing
+pub mod Aside
+pub mod Ended
+pub mod Begun
 pub mod Called
 pub mod Answered
 pub mod Sending
@@ -8,6 +11,7 @@ pub mod Pushed
 pub mod Told
 pub mod Replies
 pub mod Ordered
+pub mod Uncommitted
 pub mod Owned
 pub mod Spelt
 pub mod Came

@@ -19,7 +19,7 @@ use Rattle.member_parts.specs.Standing.{StandsFor}
 use Rattle.member_own.specs.Keeping.{Keeps, with_value}
 use Rattle.member_own.proofs.Kept.{makes}
 use Rattle.member_joining.proofs.Joined.{passes as joining_passes}
-use Rattle.member_ranges.proofs.Within.{inc_in_range, said}
+use Rattle.member_ranges.proofs.Passed.{passed as said}
 use Rattle.member_truth.specs.Ranged.{IsSpelt}
 use Rattle.member_moment.specs.declared.moment.Moment.{Moment}
 use Rattle.member_moment.specs.Standing.{RestFor}
@@ -56,7 +56,7 @@ made_rest base a v holds arrives x y same n o e spelt parts r = subst (λ z. Res
 -- the value that is made next can be spelt
 pub made_is_value : (a : Member) (x : Moment) (v : Value) (base : Life) → IsWhat 1 v.what → v.id ≡ record { origin = x.me.inc; number = suc x.own.made } → v.id.number ≤ last_u64 → RestFor base a x → IsValue v
 made_is_value a x v base w e f r = record {
-  id = record { origin = subst IsInc (sym (ap (λ i. i.origin) e ∙ ap (λ j. j.inc) r.me)) (inc_in_range a r.range); number_below = f };
+  id = record { origin = subst IsInc (sym (ap (λ i. i.origin) e ∙ ap (λ j. j.inc) r.me)) r.range.joiner.inc; number_below = f };
   what = another v.id.number v.what w;
 }
 

@@ -19,7 +19,7 @@ use Rattle.member_own.proofs.Kept.{passes as own_passes}
 use Rattle.member_joining.specs.Joins.{is_of_joining}
 use Rattle.member_joining.proofs.Joined.{passes as joining_passes}
 use Rattle.member_ranges.specs.Ranges.{is_of_range}
-use Rattle.member_ranges.proofs.Within.{said}
+use Rattle.member_ranges.proofs.Passed.{passed as said}
 use Rattle.member_moment.specs.declared.moment.Moment.{Moment}
 use Rattle.member_moment.specs.Standing.{Marked, RestFor, Stands}
 use Rattle.member_moment.specs.Doing.{Does}

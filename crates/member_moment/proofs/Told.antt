@@ -5,7 +5,7 @@ use Rattle.group_rules.specs.Member.{Member}
 use Rattle.member_parts.specs.Standing.{StandsFor}
 use Rattle.member_own.proofs.Kept.{passes as own_passes}
 use Rattle.member_joining.proofs.Joined.{passes as joining_passes}
-use Rattle.member_ranges.proofs.Within.{said}
+use Rattle.member_ranges.proofs.Passed.{passed as said}
 use Rattle.member_moment.specs.declared.moment.Moment.{Moment}
 use Rattle.member_moment.specs.Standing.{RestFor}
 use Rattle.member_moment.proofs.Pushed.{unmarked}

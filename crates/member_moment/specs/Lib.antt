@@ -6,3 +6,6 @@ pub mod Owning
 pub mod Taking
 pub mod Joining
 pub mod Calling
+pub mod Aside
+pub mod Ending
+pub mod Beginning

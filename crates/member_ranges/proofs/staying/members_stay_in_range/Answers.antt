@@ -1,29 +1,42 @@
-use Rattle.std.proofs.Common.{◌≡◌, refl}
-use Rattle.paxos_ranges.proofs.Rows.{step_in_range, step_spelt, take_in_range}
-use Rattle.node_rules.specs.declared.event.PaxosEvent.TheVariants.{Heard}
-use Rattle.member_ranges.proofs.Within.{said, on_welcome, on_taken, welcome_me, taken_me}
+use Rattle.paxos_ranges.proofs.Rows.{step_spelt}
+use Rattle.member_ranges.proofs.Begun.{founded_in_range, started_in_range}
+use Rattle.member_ranges.proofs.Passed.{arrives, committed_in_range, done_in_range, passed, restored, sends_others, steps}
+use Rattle.member_ranges.proofs.Taken.{taken_in_range}
+use Rattle.member_ranges.proofs.Welcomed.{greeted}
 use Rattle.member_ranges.proofs.staying.members_stay_in_range.Goals as goal
 
+pub returns-clause-founded : goal.returns-clause-founded
+returns-clause-founded c = λ s j good h. founded_in_range s good j h
+
+pub returns-clause-started : goal.returns-clause-started
+returns-clause-started c = λ s j x i good g k y. started_in_range s good j x i g k y
+
 pub returns-clause-said : goal.returns-clause-said
-returns-clause-said c = said
+returns-clause-said c = passed
 
 pub returns-clause-sent : goal.returns-clause-sent
-returns-clause-sent c = λ ms a r. record { me = r.me; node = r.node }
+returns-clause-sent c = sends_others
 
 pub returns-clause-node : goal.returns-clause-node
-returns-clause-node c = λ e a w g r. record { me = r.me; node = step_in_range e a.node g r.node }
+returns-clause-node c = steps
 
 pub returns-clause-messages : goal.returns-clause-messages
-returns-clause-messages c = λ e a g r v m i. (step_spelt e a.node g r.node v m i).0
+returns-clause-messages c = λ e a g k few m h. (step_spelt e a.node g k.node few m h).0
 
 pub returns-clause-welcomed : goal.returns-clause-welcomed
-returns-clause-welcomed c = λ m w a e h r. record { me = welcome_me m w a r.me; node = on_welcome m w a (step_in_range (Heard m) a.node h r.node) }
+returns-clause-welcomed c = greeted
 
 pub returns-clause-taken : goal.returns-clause-taken
-returns-clause-taken c = λ t more a e u r. record { me = taken_me t t.kept a r.me; node = on_taken t t.kept a (take_in_range a.node r.node) }
+returns-clause-taken c = taken_in_range
 
 pub returns-clause-restored : goal.returns-clause-restored
-returns-clause-restored c = λ g cs a h p e s n r. record { me = r.me; node = r.node }
+returns-clause-restored c = restored
+
+pub returns-clause-done : goal.returns-clause-done
+returns-clause-done c = done_in_range
+
+pub returns-clause-committed : goal.returns-clause-committed
+returns-clause-committed c = committed_in_range
 
 pub returns-clause-arrived : goal.returns-clause-arrived
-returns-clause-arrived c = λ x a u r. record { me = r.me; node = r.node }
+returns-clause-arrived c = arrives
