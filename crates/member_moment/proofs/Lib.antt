@@ -5,7 +5,6 @@ pub mod Begun
 pub mod Called
 pub mod Answered
 pub mod Sending
-pub mod Beside
 pub mod Asked
 pub mod Pushed
 pub mod Told
@@ -15,3 +14,4 @@ pub mod Uncommitted
 pub mod Owned
 pub mod Spelt
 pub mod Came
+pub mod Opened

@@ -9,6 +9,7 @@ mod calling;
 mod ending;
 //mod joining;
 mod moment;
+mod opening;
 mod ordering;
 mod owning;
 mod saying;
