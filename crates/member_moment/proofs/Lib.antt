@@ -9,3 +9,4 @@ pub mod Ordered
 pub mod Owned
 pub mod Spelt
 pub mod Came
+pub mod Asked

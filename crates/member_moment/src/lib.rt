@@ -6,7 +6,7 @@ mod beginning;
 mod calling;
 //mod committing;
 mod ending;
-//mod joining;
+mod joining;
 mod moment;
 mod ordering;
 mod owning;
