@@ -10,3 +10,4 @@ pub mod Owned
 pub mod Spelt
 pub mod Came
 pub mod Asked
+pub mod Welcomed
