@@ -12,3 +12,5 @@ pub mod Uncommitted
 pub mod Owned
 pub mod Spelt
 pub mod Came
+pub mod Asked
+pub mod Welcomed

@@ -6,12 +6,13 @@ mod beginning;
 mod calling;
 //mod committing;
 mod ending;
-//mod joining;
+mod joining;
 mod moment;
 mod ordering;
 mod owning;
 mod saying;
 mod taking;
+mod welcoming;
 //mod working;
 
 pub use moment::{Left, Moment};
