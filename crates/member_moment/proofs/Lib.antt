@@ -4,6 +4,9 @@ pub mod Ended
 pub mod Begun
 pub mod Called
 pub mod Answered
+pub mod Sending
+pub mod Beside
+pub mod Asked
 pub mod Pushed
 pub mod Told
 pub mod Replies
@@ -14,3 +17,4 @@ pub mod Spelt
 pub mod Came
 pub mod Asked
 pub mod Welcomed
+pub mod CommitAsked

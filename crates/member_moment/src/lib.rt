@@ -2,6 +2,7 @@
 #![tactic(auto)]
 
 mod arriving;
+mod asking;
 mod beginning;
 mod calling;
 //mod committing;
