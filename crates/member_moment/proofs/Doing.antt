@@ -1,5 +1,5 @@
 -- Parts of a step, one after another.
-use Rattle.std.proofs.Common.{ℕ, Bool, true, false, List, [], ◌∷◌, ◌++◌, refl, sym, subst, ap, ◌∙◌}
+use Rattle.std.proofs.Common.{◌≡◌, ℕ, Bool, true, false, List, [], ◌∷◌, ◌++◌, refl, sym, subst, ap, ◌∙◌}
 use Rattle.group_rules.specs.Events.{Life}
 use Rattle.group_rules.specs.Member.{Member, for_each}
 use Rattle.member_truth.specs.Growing.{Grows}

@@ -7,3 +7,4 @@ pub mod Owning
 pub mod Taking
 pub mod Joining
 pub mod Calling
+pub mod Telling

@@ -20,7 +20,8 @@ use Rattle.member_moment.specs.declared.taking.Caused.{Caused}
 use Rattle.member_moment.specs.declared.taking.Caused.TheVariants.{Nothing, Conflict as Conflicts, Welcome, Removal, Arrival}
 use Rattle.member_moment.specs.Doing.{IsKept}
 use Rattle.member_moment.specs.Standing.{Stands}
-use Rattle.group_rules.specs.Names.{Online, OwnOnline, Removed as WasRemoved}
+use Rattle.gr_ids.specs.declared.levels.MemberState.TheVariants.{Online}
+use Rattle.group_rules.specs.declared.marks.Cause.TheVariants.{OwnOnline, Removed as WasRemoved}
 use Rattle.group_rules.specs.Taking.{on_conflict}
 use Rattle.group_rules.specs.Welcomes.{greet}
 

@@ -12,6 +12,7 @@ mod ordering;
 mod owning;
 mod saying;
 mod taking;
+mod telling;
 mod working;
 
 pub use moment::{Left, Moment};
