@@ -43,7 +43,7 @@ use Rattle.group_legal.proofs.Points.{did_here}
 use Rattle.group_legal.proofs.Stocks.{in_first}
 use Rattle.group_legal.proofs.OwnValues.{Own, owns, last_own, last_is, AreOwn, are_own, own_made}
 use Rattle.group_legal.proofs.Listed as listed
-use Rattle.group_legal.proofs.Listed.{Listed, given_gtid}
+use Rattle.group_legal.proofs.Listed.{Known, Listed, given_gtid}
 use Rattle.group_legal.proofs.Knowing as knowing
 use Rattle.group_legal.proofs.Runs.{upto_upto}
 use Rattle.member_truth.specs.Truth.{IsNew, IsTrueEntry}
@@ -142,8 +142,11 @@ module _ (t : Setup) (w : Past) (s : Ran t w) where
     -- ---- a transaction that it certifies
 
     module _ (c : Cert) (n : In c (cert_of e)) where
+      known_here : Known t (list_in t w s) c
+      known_here = (ran.everywhere t w s (Does i (Took e) ∷ p) m).lives i c (subst (λ l. In c (certs l)) (sym (did_here p i (Took e))) (in_first c (cert_of e) (certs (life_in p i)) n))
+
       of_list : Listed t (list_in t w s) c
-      of_list = ((ran.everywhere t w s (Does i (Took e) ∷ p) m).lives i c (subst (λ l. In c (certs l)) (sym (did_here p i (Took e))) (in_first c (cert_of e) (certs (life_in p i)) n))).1
+      of_list = known_here.1
 
       cert_place : c.place ≡ e.place
       cert_place = sym (ap (λ (y : Cert). y.place) (given_gtid e c n).is_it)
@@ -189,4 +192,4 @@ module _ (t : Setup) (w : Past) (s : Ran t w) where
       is_new = record { unexecuted = unexecuted; unknown = unknown; unprepared = unprepared }
 
     pub true_entry : IsTrueEntry t i (life_in p i) e
-    true_entry = record { next = place; certified = is_new; joins = unrequired; made = made }
+    true_entry = record { next = place; certified = is_new; numbers = λ c n. (known_here c n).0.0; joins = unrequired; made = made }

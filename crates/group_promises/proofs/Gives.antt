@@ -32,7 +32,6 @@ use Rattle.group_lives.specs.Sound.{IsNew as AddsOne, AddsNew}
 use Rattle.group_lawful.specs.Knows.{EndsWithAdd}
 use Rattle.group_lawful.proofs.Given.{origin_came, cert_within}
 use Rattle.group_lawful.proofs.Known.{reverse_in}
-use Rattle.group_lawful.proofs.Lawfuls.{Ascends}
 use Rattle.group_lawful.proofs.Lives.{lived}
 use Rattle.group_legal.proofs.Newcomers.{adds_new}
 use Rattle.group_legal.proofs.Numbered.{kept_list}
@@ -45,13 +44,9 @@ use Rattle.group_legal.proofs.Knowing as knowing
 use Rattle.group_legal.proofs.Knowing.{LifeKnows, KnownAt, past_lives, stored_stays, recovering_began, ascends_given}
 use Rattle.group_legal.proofs.Runs as runs
 use Rattle.member_truth.specs.Truth.{IsNew, Rise, AreDistinct, IsTrueGive}
-use Rattle.group_promises.proofs.Ran.{Ran, list_in, given_in}
+use Rattle.group_promises.proofs.Ran.{Ran, list_in, given_in, rises}
 use Rattle.group_promises.proofs.Ran as ran
 use Rattle.group_promises.proofs.Taken.{TookPrepared, took_prepared}
-
-rises : (cs : List Cert) → Ascends cs → Rise cs
-rises [] h = tt
-rises (c ∷ cs) h = (h.0, rises cs h.1)
 
 module _ (t : Setup) (w : Past) (s : Ran t w) where
   -- transactions of the list at rising places have GTIDs of their own

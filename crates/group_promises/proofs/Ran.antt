@@ -1,5 +1,5 @@
 -- What is known of all that happened up to some time of a run, its numbers and own values being within their ranges.
-use Rattle.std.proofs.Common.{◌≡◌, inl, inr, ◌≤◌, ◌<◌, true, List, length, arith}
+use Rattle.std.proofs.Common.{◌≡◌, inl, inr, ◌≤◌, ◌<◌, true, List, [], ◌∷◌, length, arith}
 use Rattle.gr_ids.specs.declared.names.Inc.{Inc}
 use Rattle.gr_ids.specs.declared.names.Gtid.{Gtid}
 use Rattle.gtid_sets.specs.Sets.{has}
@@ -34,6 +34,8 @@ use Rattle.group_legal.proofs.Knowing as knowing
 use Rattle.group_legal.proofs.Knowing.{LifeKnows, KnownAt}
 use Rattle.group_legal.proofs.Runs as runs
 use Rattle.group_legal.proofs.Runs.{VerdictsAgree}
+use Rattle.group_lawful.proofs.Lawfuls.{Ascends}
+use Rattle.member_truth.specs.Truth.{Rise}
 
 pub record Ran (t : Setup) (w : Past) : Type 0 where
   pub setup : IsSetup t
@@ -57,6 +59,10 @@ given_in t w s i = base_in t s.over.log w i
 
 abbrev pub Takes : (t : Setup) (w : Past) → Ran t w → Past → Inc → Type 0
 Takes t w s p i = TakesOf t s.over.log (given_in t w s i) (life_in p i) × JudgesAs t s.over.log (given_in t w s i) (life_in p i)
+
+pub rises : (cs : List Cert) → Ascends cs → Rise cs
+rises [] h = tt
+rises (c ∷ cs) h = (h.0, rises cs h.1)
 
 module _ (t : Setup) (w : Past) (s : Ran t w) where
   pub self : IsPast w w
@@ -90,6 +96,10 @@ module _ (t : Setup) (w : Past) (s : Ran t w) where
     -- what it has is a part of the list
     pub part : (i : Inc) → listing.IsPast (lives.marked (life_of (given_in t w s i) (life_in p i))) (list_in t w s)
     part = runs.part t s.setup w s.over s.done s.servers s.spelled s.reads s.small s.ranges s.tells s.verdicts p k judged p (past_self p)
+
+    -- those that it knows stand by place, each once
+    pub known_rises : (i : Inc) → Rise (known (life_in p i))
+    known_rises i = rises (known (life_in p i)) (knowing.ascends_known t (list_in t w s) i (life_in p i) (knows.lives i))
 
     -- each certified transaction that it knows is one of the list
     pub listed_known : (i : Inc) (c : Cert) → In c (known (life_in p i)) → Listed t (list_in t w s) c

@@ -1,11 +1,12 @@
 -- Each history is true.
-use Rattle.std.proofs.Common.{◌≡◌, inl, inr, Bool, true, false, [], ◌∷◌, refl, subst}
+use Rattle.std.proofs.Common.{◌≡◌, inl, inr, Bool, true, false, [], ◌∷◌, refl, sym, subst}
 use Rattle.gr_ids.specs.Names.{inc_eq}
 use Rattle.gr_ids.specs.declared.names.Inc.{Inc}
 use Rattle.gr_ids.specs.declared.levels.MemberState.TheVariants.{Online}
 use Rattle.node_rules.proofs.Incs.{inc_is}
-use Rattle.group_rules.specs.Events.{Did, Founds, Starts, Came, Made, Took, Skips, Done, Committed, Is, Gave, Answered, Begun, Changed, Replied, Called, AsksCommit, Ends, Enters, Restores, AskFails, Hears, Ticks, Works, Calls, Operates, Setup}
+use Rattle.group_rules.specs.Events.{Did, Founds, Starts, Came, Made, Took, Skips, Done, Committed, Is, Gave, Answered, Begun, Changed, Replied, Called, AsksCommit, Ends, Enters, Restores, AskFails, Hears, Ticks, Works, Calls, Operates, Life, Setup}
 use Rattle.group_rules.specs.Legal.{IsPast}
+use Rattle.group_rules.specs.Rows.{known}
 use Rattle.group_rules.specs.World.{Past, Does, Writes, Halts, life_in, world_after}
 use Rattle.group_runs.specs.Runs.{IsDone, EveryRun}
 use Rattle.group_runs.specs.Servers.{IsFounding, IsWritten, OfServers, EveryRunOfServers}
@@ -14,11 +15,13 @@ use Rattle.group_order.proofs.Nexts.{past_self, past_of, did_past}
 use Rattle.group_legal.specs.OwnRanges.{ReadBack}
 use Rattle.group_legal.proofs.Told.{Spelled}
 use Rattle.group_legal.proofs.Takers.{GiveTells}
+use Rattle.group_legal.proofs.Points.{did_here}
 use Rattle.group_legal.proofs.Owners.{pasts_compare, founding_past, written_past}
 use Rattle.group_legal.proofs.Runs.{VerdictsAgree}
-use Rattle.member_truth.specs.Truth.{IsTrueDid, IsTrue}
+use Rattle.member_truth.specs.Truth.{IsTrueDid, IsTrue, Rise}
 use Rattle.group_promises.specs.Promises.{EveryHistoryIsTrue}
 use Rattle.group_promises.proofs.Ran.{Ran}
+use Rattle.group_promises.proofs.Ran as ran
 use Rattle.group_promises.proofs.Entries.{true_entry}
 use Rattle.group_promises.proofs.Commits.{in_order}
 use Rattle.group_promises.proofs.Gives.{true_give}
@@ -59,7 +62,9 @@ module _ (t : Setup) (w : Past) (s : Ran t w) where
   true_to (Does j d ∷ p) k i = go (inc_eq j i) refl (true_to p (past_of (Does j d ∷ p) p w k (inr (past_self p))) i)
     where
       go : (b : Bool) → inc_eq j i ≡ b → IsTrue t i (life_in p i) → IsTrue t i (elim b [ true ↦ d ∷ life_in p i | false ↦ life_in p i ])
-      go true e h = (true_did p i d (subst (λ y. IsPast (Does y d ∷ p) w) (inc_is j i e) k), h)
+      go true e h =
+          let m : IsPast (Does i d ∷ p) w = subst (λ y. IsPast (Does y d ∷ p) w) (inc_is j i e) k in
+          (true_did p i d m, h, subst (λ l. Rise (known l)) (did_here p i d) (ran.known_rises t w s (Does i d ∷ p) m i))
       go false e h = h
 
   is_true : (i : Inc) → IsTrue t i (life_in w i)
@@ -67,24 +72,24 @@ module _ (t : Setup) (w : Past) (s : Ran t w) where
 
 -- ---- while it is founded
 
-founding_true : (t : Setup) (p : Past) → IsFounding p → (i : Inc) → IsTrue t i (life_in p i)
-founding_true t [] f i = tt
+-- what happens then is true of any history, and makes nothing known
+founds_true : (t : Setup) (i j : Inc) (d : Did) (p : Past) (l : Life) → IsFounding (Does j d ∷ p) → IsFounding p × IsTrueDid t i d l × (known (d ∷ l) ≡ known l)
+founds_true t i j Founds p l f = (f, tt, refl)
+founds_true t i j (Is Online c) p l f = (f, tt, refl)
+founds_true t i j d p l f = absurd f
+
+founding_true : (t : Setup) (p : Past) → IsFounding p → (i : Inc) → IsTrue t i (life_in p i) × Rise (known (life_in p i))
+founding_true t [] f i = (tt, tt)
 founding_true t (Writes n y ∷ p) f i = absurd f
 founding_true t (Halts n ∷ p) f i = founding_true t p f i
-founding_true t (Does j d ∷ p) f i = go (inc_eq j i) (founding_true t p (rest d f) i)
+founding_true t (Does j d ∷ p) f i = go (inc_eq j i) (founding_true t p here.0 i)
   where
-    rest : (d : Did) → IsFounding (Does j d ∷ p) → IsFounding p
-    rest Founds f = f
-    rest (Is Online c) f = f
-    rest d f = absurd f
+    here : IsFounding p × IsTrueDid t i d (life_in p i) × (known (d ∷ life_in p i) ≡ known (life_in p i))
+    here = founds_true t i j d p (life_in p i) f
 
-    quiet : (d : Did) → IsFounding (Does j d ∷ p) → IsTrueDid t i d (life_in p i)
-    quiet Founds f = tt
-    quiet (Is Online c) f = tt
-    quiet d f = absurd f
-
-    go : (b : Bool) → IsTrue t i (life_in p i) → IsTrue t i (elim b [ true ↦ d ∷ life_in p i | false ↦ life_in p i ])
-    go true h = (quiet d f, h)
+    go : (b : Bool) → IsTrue t i (life_in p i) × Rise (known (life_in p i))
+        → IsTrue t i (elim b [ true ↦ d ∷ life_in p i | false ↦ life_in p i ]) × Rise (known (elim b [ true ↦ d ∷ life_in p i | false ↦ life_in p i ]))
+    go true h = let r = subst Rise (sym here.2) h.1 in ((here.1, h.0, r), r)
     go false h = h
 
 -- ---- at each time of a run
@@ -101,7 +106,7 @@ over_past t w p k x = record {
 
 pub every_history_true : EveryRun → EveryRunOfServers → EveryRunHasOne → Spelled → ReadBack → ((t : Setup) → GiveTells t) → ((t : Setup) → VerdictsAgree t) → EveryHistoryIsTrue
 every_history_true runs writes logs spelled reads tells verdicts ms t e setup moves p k small ranges i = elim (pasts_compare p servers.founded.past w k servers.founded.earlier) [
-  | inl h ↦ founding_true t p (founding_past servers.founded.past p h servers.founded.founding) i
+  | inl h ↦ (founding_true t p (founding_past servers.founded.past p h servers.founded.founding) i).0
   | inr h ↦ is_true t p (ran h) i
 ]
   where

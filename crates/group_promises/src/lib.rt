@@ -17,9 +17,9 @@ use group_runs::{runs_are_of_nodes, servers_write_apart};
 use txn_forms::bytes_of_bodies;
 
 /// Every run promises to each member what its code rests on: at each time up to which the numbers of GTIDs and what own values hold stayed within the ranges of
-/// their forms, its history is true. Entries come at consecutive places; a transaction that is certified, by an entry or by a Give, is new to the member;
-/// nobody is added twice; an own value that is taken was made; a transaction shares no row with a later one that is committed before it; and a member whose
-/// server wrote offline commits nothing.
+/// their forms, its history is true. Entries come at consecutive places; a transaction that is certified, by an entry or by a Give, is new to the member, and
+/// no two that it knows have one place; nobody is added twice; an own value that is taken was made; a transaction shares no row with a later one that is
+/// committed before it; and a member whose server wrote offline commits nothing.
 pub fn every_history_is_true()
     ensures { EveryHistoryIsTrue }
 {

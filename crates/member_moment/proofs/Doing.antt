@@ -1,5 +1,5 @@
 -- Parts of a step, one after another.
-use Rattle.std.proofs.Common.{◌≡◌, ℕ, Bool, true, false, List, [], ◌∷◌, ◌++◌, refl, sym, subst, ap, ◌∙◌}
+use Rattle.std.proofs.Common.{◌≡◌, Result, Ok, Err, OnOk, ℕ, Bool, true, false, List, [], ◌∷◌, ◌++◌, refl, sym, subst, ap, ◌∙◌}
 use Rattle.group_rules.specs.Events.{Life}
 use Rattle.group_rules.specs.Member.{Member, for_each}
 use Rattle.member_truth.specs.Growing.{Grows}
@@ -38,3 +38,9 @@ each_and_one f (y ∷ ys) x a = each_and_one f ys x (f y a)
 pub does_one_more : {A : Type 0} → (f : A → Member → Member) → ((v : A) (a : Member) → Grows a (f v a)) → (xs : List A) (v : A) (x y z : Moment)
     → Does (for_each f xs) x y → Does (f v) y z → Does (for_each f (xs ++ v ∷ [])) x z
 does_one_more f grows xs v x y z d e = does_same (for_each f (xs ++ v ∷ [])) (λ a. f v (for_each f xs a)) x z (λ base a st. each_and_one f xs v a) (does_then (for_each f xs) (f v) (grows v) x y z d e)
+
+-- ---- what holds at Ok
+
+pub on_ok_two : {T E P Q S : Type 0} (r : Result T E) → (P → Q → S) → OnOk r P → OnOk r Q → OnOk r S
+on_ok_two (Ok x) f p q = f p q
+on_ok_two (Err e) f p q = tt

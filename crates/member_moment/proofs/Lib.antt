@@ -1,1 +1,11 @@
 pub mod Doing
+pub mod Aside
+pub mod Ended
+pub mod Begun
+pub mod Pushed
+pub mod Told
+pub mod Replies
+pub mod Ordered
+pub mod Owned
+pub mod Spelt
+pub mod Came

@@ -2,9 +2,11 @@ pub mod Standing
 pub mod Doing
 pub mod Saying
 pub mod Arriving
-pub mod Ordering
 pub mod Owning
 pub mod Taking
 pub mod Joining
 pub mod Calling
+pub mod Aside
+pub mod Ending
+pub mod Beginning
 pub mod Telling

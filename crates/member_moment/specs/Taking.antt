@@ -18,6 +18,7 @@ use Rattle.group_rules.specs.Taking.{causes, entry_of, take_slot, takes_slots}
 use Rattle.member_moment.specs.declared.moment.Moment.{Moment}
 use Rattle.member_moment.specs.declared.taking.Caused.{Caused}
 use Rattle.member_moment.specs.declared.taking.Caused.TheVariants.{Nothing, Conflict as Conflicts, Welcome, Removal, Arrival}
+use Rattle.member_ranges.specs.Taking.{takes_on}
 use Rattle.member_moment.specs.Doing.{IsKept}
 use Rattle.member_moment.specs.Standing.{Stands}
 use Rattle.gr_ids.specs.declared.levels.MemberState.TheVariants.{Online}
@@ -32,14 +33,6 @@ done_of (Conflicts i g) a = on_conflict i g a
 done_of (Welcome i) a = greet i a
 done_of Removal a = fall WasRemoved a
 done_of Arrival a = push (Is Online OwnOnline) a
-
--- the entry is in the history, or the slot is skipped
-abbrev pub entered_by : Taken → Kept → Member → Member
-entered_by x IsSkipped a = push (Skips x.slot x.value) a
-entered_by x (KeptAt p h) a = push (Took (entry_of a.setup a.life x.slot p h x.value)) a
-
-abbrev pub takes_on : Taken → Member → Member
-takes_on x a = entered_by x x.kept (by_node take a)
 
 -- A slot was taken, and what it causes is known; or there was none.
 pub record Hands (c : Caused) (x y : Moment) (base : Life) (a : Member) (t : Taken) (more : List Taken) : Type 0 where

@@ -4,16 +4,16 @@
 mod arriving;
 mod beginning;
 mod calling;
-mod committing;
+//mod committing;
 mod ending;
-mod joining;
+//mod joining;
 mod moment;
 mod ordering;
 mod owning;
 mod saying;
 mod taking;
 mod telling;
-mod working;
+//mod working;
 
 pub use moment::{Left, Moment};
 pub use taking::Caused;

@@ -1,22 +1,27 @@
 // Own values.
-ghost use Rattle.std.specs.Prelude.{◌≡◌, None, OnOk, Option, Some};
+ghost use Rattle.std.specs.Prelude.{◌≡◌, None, OnOk, Option, Some, false};
 ghost use Rattle.gr_ids.specs.declared.memory.Memory.{Memory};
 ghost use Rattle.slot_values.specs.Spelling.{IsWhat};
 ghost use Rattle.slot_values.specs.declared.value.What.TheVariants.{Body as Says};
 ghost use Rattle.txn_forms.specs.Bodies.{IsBody, body_bytes};
 ghost use Rattle.txn_forms.specs.declared.body.Body.{Body as AnyBody};
 ghost use Rattle.group_rules.specs.Life.{is_arrival};
-ghost use Rattle.group_rules.specs.Member.{own as own_of, own_body as own_body_of};
+ghost use Rattle.group_rules.specs.Events.{Life};
+ghost use Rattle.group_rules.specs.Member.{Member, own as own_of, own_body as own_body_of};
 ghost use Rattle.member_parts.specs.Committing.{HasNumber, prepared_in};
 ghost use Rattle.member_truth.specs.Ranged.{IsSpelt};
 ghost use Rattle.member_moment.specs.Doing.{Does};
 ghost use Rattle.member_moment.specs.Owning.{IsHeldAs};
+ghost use Rattle.member_moment.specs.Standing.{RestFor};
 
 use crate::moment::Moment;
 use gr_ids::{Blob, Gtid, Memory, ValueId};
 use node_rules::PaxosEvent;
 use slot_values::{Value, What};
 use txn_forms::{Body, encode};
+
+// What the count of a value's bytes can say: 2^32 - 1.
+const MOST_BYTES: usize = 4_294_967_295;
 
 impl Moment {
     /// An Add or a Remove is made, which holds no body.
@@ -33,6 +38,9 @@ impl Moment {
         ensures { OnOk result (Does (own_body_of body.now) self.old self.new) }
     {
         let bytes = encode(self.alloc, body)?;
+        if bytes.len() > MOST_BYTES {
+            return Err(Memory);
+        }
         self.own(What::Body(bytes), prepared(body), arrives(body))
     }
 
@@ -45,9 +53,17 @@ impl Moment {
     }
 
     // The next own value: it may be a Prepared entry of this GTID, or the Online entry.
-    fn own(&mut self, what: What, prepared: Option<Gtid>, arrives: bool) -> Result<(), Memory>
+    pub(crate) fn own(
+        &mut self,
+        what: What,
+        prepared: Option<Gtid>,
+        arrives: bool,
+    ) -> Result<(), Memory>
         requires { IsWhat 1 what }
-        ensures { OnOk result ((holds : Option AnyBody) → IsSpelt holds → IsHeldAs prepared arrives holds → Does (own_of what holds) self.old self.new) }
+        ensures rest { OnOk result ((base : Life) (a : Member) (holds : Option AnyBody) → IsSpelt holds → IsHeldAs prepared arrives holds → RestFor base a self.old
+            → RestFor base (own_of what holds a) self.new) }
+        ensures others { OnOk result (self.new ≡ record self.old { node = self.new.node; parts = self.new.parts; own = self.new.own; sent = self.new.sent }) }
+        ensures does { OnOk result ((holds : Option AnyBody) → IsSpelt holds → IsHeldAs prepared arrives holds → Does (own_of what holds) self.old self.new) }
     {
         let number = self.own.make(arrives)?;
         self.parts.made(prepared)?;
@@ -55,7 +71,8 @@ impl Moment {
             origin: self.me.inc,
             number,
         };
-        self.at_node(&PaxosEvent::Own(Value { id, what }))
+        let event = PaxosEvent::Own(Value { id, what });
+        self.at_node(&event)
     }
 }
 

@@ -10,7 +10,8 @@ ghost use Rattle.group_rules.specs.Taking.{entry_of, take_kept};
 ghost use Rattle.member_joining.specs.Joins.{MayBe};
 ghost use Rattle.member_moment.specs.Doing.{Does, DoesIf, IsKept};
 ghost use Rattle.member_moment.specs.Standing.{Stands};
-ghost use Rattle.member_moment.specs.Taking.{HasTaken, Hands, takes_on};
+ghost use Rattle.member_ranges.specs.Taking.{takes_on};
+ghost use Rattle.member_moment.specs.Taking.{HasTaken, Hands};
 
 use crate::moment::Moment;
 use gr_ids::{Inc, MemberState, Memory, ValueId};

@@ -8,7 +8,7 @@ ghost use Rattle.group_rules.specs.Life.{executed as executed_by, is_error, stat
 ghost use Rattle.group_rules.specs.Parts.{open_parts};
 ghost use Rattle.group_rules.specs.Taking.{entry_of};
 ghost use Rattle.paxos_forms.specs.declared.message.Message.{Message as AnyMessage};
-ghost use Rattle.list_state.specs.Holding.{IsEntered};
+ghost use Rattle.list_state.specs.Holding.{HasNumber, IsEntered};
 ghost use Rattle.member_truth.specs.Truth.{IsTrueEntry};
 ghost use Rattle.member_parts.specs.Standing.{StandsFor};
 
@@ -106,6 +106,7 @@ impl MemberParts {
         requires origin { IsInc value.now.id.origin }
         ensures entered { IfOk result (λ x. (s : Setup) (l : Life) (t : ℕ) → StandsFor s me l self.old
             → IsEntered (open_parts l value.now.id.origin) (entry_of s l t (suc (taken l)) has_effect value.now) x) }
+        ensures number { IfOk result (λ x. HasNumber x.effect) }
         ensures taken { OnOk result ((s : Setup) (l : Life) (t : ℕ) → executed.now ≡ executed_by l → is_error (state l) ≡ false
             → IsTrueEntry s me l (entry_of s l t (suc (taken l)) has_effect value.now) → StandsFor s me l self.old
             → StandsFor s me (Took (entry_of s l t (suc (taken l)) has_effect value.now) ∷ l) self.new) }

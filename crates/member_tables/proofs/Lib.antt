@@ -5,6 +5,7 @@ pub mod Queues
 pub mod Listed
 pub mod Decided
 pub mod Settled
+pub mod Nexts
 pub mod Answering
 pub mod Freed
 pub mod Results

@@ -41,7 +41,7 @@ in_filter p (y ∷ ys) x m = go (p y) refl (in_filter p ys x)
     go true e r = elim (subst (In x) (let e2 : filter p (y ∷ ys) ≡ y ∷ filter p ys = rw e refl in e2) m) [ inl q ↦ inl q | inr q ↦ inr (r q) ]
     go false e r = inr (r (subst (In x) (let e2 : filter p (y ∷ ys) ≡ filter p ys = rw e refl in e2) m))
 
-is_certified : (l : Life) (c : Cert) → In c (pending l) → In c (certs l)
+pub is_certified : (l : Life) (c : Cert) → In c (pending l) → In c (certs l)
 is_certified l c m = in_reverse c (certs l) (in_filter (λ d. not (has (executed l) d.gtid)) (reverse (certs l)) c m)
 
 is_known : (l : Life) (c : Cert) → In c (certs l) → In c (known l)

@@ -14,5 +14,5 @@ mod tables;
 mod tests;
 
 pub use keeping::KeptRows;
-pub use laws::tables_stand_for_their_member;
+pub use laws::{tables_stand_for_their_member, what_waits_may_come_next};
 pub use tables::MemberTables;

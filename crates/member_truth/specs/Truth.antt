@@ -24,10 +24,12 @@ pub record IsNew (l : Life) (c : Cert) : Type 0 where
   pub unknown : (d : Cert) → In d (known l) → gtid_eq d.gtid c.gtid ≡ false
   pub unprepared : (m : Inc) → has_prepared l m c.gtid ≡ false
 
--- An entry is taken: it has the next place, what it certifies is new, an incarnation that it adds was required by nothing before, and an own value was made.
+-- An entry is taken: it has the next place, what it certifies is new, with a GTID in its range, an incarnation that it adds was required by nothing before, and an
+-- own value was made.
 pub record IsTrueEntry (s : Setup) (me : Inc) (l : Life) (e : Entry) : Type 0 where
   pub next : e.place ≡ suc (taken l)
   pub certified : (c : Cert) → In c (cert_of e) → IsNew l c
+  pub numbers : (c : Cert) → In c (cert_of e) → IsUuid c.gtid.source × IsNumber c.gtid.number
   pub joins : (j : Joiner) → e.value.what ≡ Add j → e.effect ≡ Plain → (c : Cert) → In c (certs l) → has_inc (required s l c) j.inc ≡ false
   pub made : inc_eq e.value.id.origin me ≡ true → e.value.id.number ≤ last_made l
 
@@ -67,6 +69,7 @@ IsTrueDid s me (Committed g) l = IsInOrder l g
 IsTrueDid s me (Restores g cs) l = IsTrueGive me l cs
 IsTrueDid s me d l = Unit {0}
 
+-- Each thing that happened is true of what was before it, and then the certified transactions that it knows stand by place, each once.
 abbrev pub IsTrue : Setup → Inc → Life → Type 0
 IsTrue s me [] = Unit {0}
-IsTrue s me (d ∷ l) = IsTrueDid s me d l × IsTrue s me l
+IsTrue s me (d ∷ l) = IsTrueDid s me d l × IsTrue s me l × Rise (known (d ∷ l))

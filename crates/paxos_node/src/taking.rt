@@ -1,5 +1,5 @@
 // Taking the next decided slot, and forgetting the slots that every member has.
-ghost use Rattle.std.specs.Prelude.{◌≡◌, ◌<◌, ◌≤◌, ◌^◌, not, filter, map, nat_lt, option_map, option_to_list, vec_len, vec_capacity, if◌then◌else◌, IfOk, OnErr, OnOk, Some};
+ghost use Rattle.std.specs.Prelude.{◌≡◌, ◌<◌, ◌≤◌, ◌^◌, not, filter, map, nat_lt, option_map, option_to_list, vec_len, vec_capacity, if◌then◌else◌, IfOk, MatchOption, OnErr, OnOk, Some};
 ghost use Rattle.gr_ids.specs.Names.{inc_eq};
 ghost use Rattle.gr_ids.specs.declared.memory.Memory.{Memory};
 ghost use Rattle.node_rules.specs.Learner.{next_entry};
@@ -22,17 +22,19 @@ use std::alloc::Global;
 
 impl Node {
     /// Hands out the next decided slot, and forgets the slots that every member is known to have. None exactly where that
-    /// slot isn't decided here. Unchanged where memory is refused. Linear in the members, in the own values that aren't
-    /// kept, in the incarnations that ever were members and in the value's bytes; what it forgets takes more.
+    /// slot isn't decided here, and then nothing changes; nor does it where memory is refused. Linear in the members, in the own
+    /// values that aren't kept, in the incarnations that ever were members and in the value's bytes; what it forgets takes more.
     #[tactic(auto, unfolding(node_rules::specs::Taking::take))]
     pub fn take(&mut self, alloc: Global) -> Result<Option<Taken>, Memory>
         ensures taken { IfOk result (λ taken. option_to_list taken ≡ (take self.old).took) }
-        ensures node { OnOk result (self.new ≡ (take self.old).node) }
+        ensures node { IfOk result (λ taken. MatchOption taken (self.new ≡ self.old) (λ t. self.new ≡ (take self.old).node)) }
         ensures err { OnErr result (self.new ≡ self.old) }
     {
-        let taken = self.take_next(alloc)?;
+        let Some(taken) = self.take_next(alloc)? else {
+            return Ok(None);
+        };
         self.forget_told();
-        Ok(taken)
+        Ok(Some(taken))
     }
 
     fn take_next(&mut self, alloc: Global) -> Result<Option<Taken>, Memory>

@@ -1,4 +1,4 @@
 mod Chains
 mod Incs
 mod Known
-mod Rows
+pub mod Rows

@@ -1,0 +1,7 @@
+use Rattle.std.proofs.Common.{refl}
+use Rattle.group_rules.specs.Events.{Answered}
+use Rattle.member_moment.proofs.Pushed.{does_say}
+use Rattle.member_moment.proofs.moment.Moment.answer.Goals as goal
+
+pub returns : goal.returns
+returns c = does_say (Answered _ _) _ _ refl c.in_ok-push.ensures.items (λ a. record { said = record { parts = refl; own = refl; joining = refl; range = refl; ranged = tt; committed = refl }; sessions = refl; tables = refl; made = refl })
