@@ -23,23 +23,25 @@ use Rattle.member_moment.specs.declared.taking.Caused.{Caused}
 use Rattle.member_moment.specs.declared.taking.Caused.TheVariants.{Nothing, Conflict, Welcome, Removal, Arrival}
 use Rattle.member_moment.specs.Doing.{Does, DoesIf, IsKept}
 use Rattle.member_moment.specs.Standing.{Stands}
-use Rattle.member_moment.specs.Taking.{HasTaken, done_of, entered_by, takes_on}
+use Rattle.member_moment.specs.Taking.{HasTaken, done_of}
+use Rattle.member_ranges.specs.Taking.{entered_by, takes_on}
+use Rattle.gr_ids.specs.declared.names.Inc.{Inc}
+use Rattle.name_forms.specs.Incs.{IsInc}
+use Rattle.group_rules.specs.Life.{taken}
+use Rattle.group_rules.specs.Welcomes.{greet}
 use Rattle.member_moment.proofs.Doing.{does_same}
-use Rattle.member_core.specs.Slots.{HasPassed, TakesSlots, pass_slot, round_more, round_once, take_all, take_more}
+use Rattle.member_core.specs.Slots.{HasPassed, MayCause, pass_slot, round_more, round_once, take_all, take_more}
 
 -- ---- what an entry causes
 
-pub causes_so : (x y : Moment) (f g : Caused) → f ≡ g → Does (done_of g) x y → DoesIf TakesSlots (done_of f) x y
-causes_so x y f g e d = subst (λ h. DoesIf TakesSlots (done_of h) x y) (sym e) (λ base a w k st. d base a k st)
+pub causes_so : (x y : Moment) (f g : Caused) → f ≡ g → Does (done_of g) x y → DoesIf (MayCause f) (done_of f) x y
+causes_so x y f g e d = subst (λ h. DoesIf (MayCause h) (done_of h) x y) (sym e) (λ base a w k st. d base a k st)
 
-takes_well : (m : MemberState) (b : Bool) → (is_up m || (is_recovering m && b)) ≡ true → is_error m ≡ false
-takes_well Offline b h = refl
-takes_well Recovering b h = refl
-takes_well Online b h = refl
-takes_well Error b h = absurd (cc h)
+pub welcomes_so : (x y : Moment) (f : Caused) (i : Inc) → f ≡ Welcome i → DoesIf (λ a. IsInc i × (1 ≤ taken a.life)) (greet i) x y → DoesIf (MayCause f) (done_of f) x y
+welcomes_so x y f i e d = subst (λ h. DoesIf (MayCause h) (done_of h) x y) (sym e) (λ base a w k st. d base a w.1 k st)
 
-pub arrives_so : (x y : Moment) (f : Caused) → f ≡ Arrival → DoesIf (λ a. (is_error (state a.life) ≡ false) × MayBe a.life Online) (push (Is Online OwnOnline)) x y → DoesIf TakesSlots (done_of f) x y
-arrives_so x y f e d = subst (λ h. DoesIf TakesSlots (done_of h) x y) (sym e) (λ base a w k st. d base a (takes_well (state a.life) (has_give a.life) w, w) k st)
+pub arrives_so : (x y : Moment) (f : Caused) → f ≡ Arrival → DoesIf (λ a. takes_slots a.life ≡ true) (push (Is Online OwnOnline)) x y → DoesIf (MayCause f) (done_of f) x y
+arrives_so x y f e d = subst (λ h. DoesIf (MayCause h) (done_of h) x y) (sym e) (λ base a w k st. d base a w.0 k st)
 
 causes_grow : (c : Caused) (a : Member) → Grows a (done_of c a)
 causes_grow Nothing a = stays a
@@ -63,7 +65,7 @@ takes_none f x t base a st = (next_is false a (sym (t base a st)), st)
 pub none_taken : (f : Taken → Member → Member) (x y : Moment) → ((base : Life) (a : Member) → Stands base a x → true ≡ takes_slots a.life) → HasTaken None x y → HasPassed f false x y
 none_taken f x y t h base a st = let g = h base a st in (next_is true a (sym (t base a st)) ∙ g.0, g.1)
 
-pub some_taken : (c : Caused) (x y z w : Moment) → ((base : Life) (a : Member) → Stands base a x → true ≡ takes_slots a.life) → HasTaken (Some c) x y → DoesIf TakesSlots (done_of c) y z → Does point z w → HasPassed pass_slot true x w
+pub some_taken : (c : Caused) (x y z w : Moment) → ((base : Life) (a : Member) → Stands base a x → true ≡ takes_slots a.life) → HasTaken (Some c) x y → DoesIf (MayCause c) (done_of c) y z → Does point z w → HasPassed pass_slot true x w
 some_taken c x y z w t h d p base a st =
     let g = h base a st in
     let so : takes_slots a.life ≡ true = sym (t base a st) in
@@ -76,7 +78,7 @@ some_taken c x y z w t h d p base a st =
           let k2 : IsKept (done_of c b) = promised (points (done_of c b)) k1 in
           let k3 : IsKept b = promised (causes_grow c b) k2 in
           let s1 : Stands base b y = g.3.stands k3 so in
-          let s2 : Stands base (done_of c b) z = d base b (takes_still g.0 g.0.kept (by_node take a) ∙ so) k2 s1 in
+          let s2 : Stands base (done_of c b) z = d base b (takes_still g.0 g.0.kept (by_node take a) ∙ so, g.3.fits) k2 s1 in
           subst (λ m. Stands base (point m) w) (sym g.3.rest) (p base (done_of c b) k1 s2)),
     )
 

@@ -4,10 +4,10 @@ ghost use Rattle.gr_ids.specs.declared.memory.Memory.{Memory};
 ghost use Rattle.group_rules.specs.Taking.{propose as proposes, settle_slots as settles_slots};
 ghost use Rattle.member_moment.specs.Doing.{Does, DoesIf};
 ghost use Rattle.member_moment.specs.Taking.{done_of};
-ghost use Rattle.member_core.specs.Slots.{HasPassed, TakesSlots, pass_slot, round_more, round_once, take_all, take_more as takes_more};
+ghost use Rattle.member_core.specs.Slots.{HasPassed, MayCause, pass_slot, round_more, round_once, take_all, take_more as takes_more};
 
 use crate::points::point;
-use gr_ids::{MemberState, Memory};
+use gr_ids::Memory;
 use group_rules::Cause;
 use member_moment::{Caused, Moment};
 use node_rules::PaxosEvent;
@@ -92,14 +92,14 @@ fn take_slot(moment: &mut Moment) -> Result<bool, Memory>
 
 // What an entry causes.
 fn cause(moment: &mut Moment, caused: Caused) -> Result<(), Memory>
-    ensures { OnOk result (DoesIf TakesSlots (done_of caused) moment.old moment.new) }
+    ensures { OnOk result (DoesIf (MayCause caused) (done_of caused) moment.old moment.new) }
 {
     match caused {
         Caused::Nothing => Ok(()),
         Caused::Conflict(id, gtid) => moment.conflict(id, gtid),
         Caused::Welcome(inc) => moment.greet(inc),
         Caused::Removal => moment.fall(Cause::Removed),
-        Caused::Arrival => moment.come_to(MemberState::Online, Cause::OwnOnline),
+        Caused::Arrival => moment.come_online(Cause::OwnOnline),
     }
 }
 

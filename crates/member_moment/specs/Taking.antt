@@ -1,7 +1,9 @@
 -- A slot that is taken.
-use Rattle.std.specs.Prelude.{◌≡◌, ℕ, Bool, true, false, Option, Some, None, List, [], ◌∷◌}
+use Rattle.std.specs.Prelude.{◌≡◌, ◌≤◌, ℕ, Bool, true, false, Option, Some, None, List, [], ◌∷◌}
 use Rattle.gr_ids.specs.Names.{inc_eq}
 use Rattle.gr_ids.specs.declared.names.Inc.{Inc}
+use Rattle.name_forms.specs.Incs.{IsInc}
+use Rattle.group_rules.specs.Life.{taken}
 use Rattle.slot_values.specs.declared.value.Value.{Value}
 use Rattle.slot_values.specs.declared.value.What.{What}
 use Rattle.slot_values.specs.declared.value.What.TheVariants.{Add, Remove}
@@ -34,9 +36,15 @@ done_of (Welcome i) a = greet i a
 done_of Removal a = fall WasRemoved a
 done_of Arrival a = push (Is Online OwnOnline) a
 
+-- a joiner that is to be welcomed was added by an entry
+abbrev pub Fits : Caused → Member → Type 0
+Fits (Welcome i) a = IsInc i × (1 ≤ taken a.life)
+Fits c a = Unit {0}
+
 -- A slot was taken, and what it causes is known; or there was none.
 pub record Hands (c : Caused) (x y : Moment) (base : Life) (a : Member) (t : Taken) (more : List Taken) : Type 0 where
   pub stands : IsKept (takes_on t a) → takes_slots a.life ≡ true → Stands base (takes_on t a) y
+  pub fits : Fits c (takes_on t a)
   pub rest : take_slot t (by_node take a) ≡ done_of c (takes_on t a)
 
 abbrev pub HasTaken : Option Caused → Moment → Moment → Type 0
