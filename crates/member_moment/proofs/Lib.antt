@@ -9,3 +9,5 @@ pub mod Ordered
 pub mod Owned
 pub mod Spelt
 pub mod Came
+pub mod Minded
+pub mod Offered

@@ -10,3 +10,4 @@ pub mod Aside
 pub mod Ending
 pub mod Beginning
 pub mod Telling
+pub mod Watching
