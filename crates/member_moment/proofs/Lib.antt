@@ -2,10 +2,13 @@ pub mod Doing
 pub mod Aside
 pub mod Ended
 pub mod Begun
+pub mod Called
+pub mod Answered
 pub mod Pushed
 pub mod Told
 pub mod Replies
 pub mod Ordered
+pub mod Uncommitted
 pub mod Owned
 pub mod Spelt
 pub mod Came

@@ -1,20 +1,19 @@
-// Slots that are taken, and states.
-ghost use Rattle.std.specs.Prelude.{◌≡◌, ◌<◌, ◌^◌, ◌∷◌, [], IfOk, OnOk, false, true, suc};
+// Slots that are taken, and the state ONLINE.
+ghost use Rattle.std.specs.Prelude.{◌≡◌, ℕ, IfOk, OnOk, if◌then◌else◌, true};
+ghost use Rattle.gr_ids.specs.declared.levels.MemberState.TheVariants.{Online};
+ghost use Rattle.gr_ids.specs.Names.{inc_eq};
 ghost use Rattle.gr_ids.specs.declared.memory.Memory.{Memory};
 ghost use Rattle.name_forms.specs.Incs.{IsInc};
-ghost use Rattle.group_rules.specs.Events.{Is, Life, Took};
-ghost use Rattle.group_rules.specs.Life.{is_error, state as state_of, taken};
+ghost use Rattle.slot_values.specs.declared.kept.Kept.TheVariants.{At as KeptAt};
+ghost use Rattle.node_rules.specs.declared.taken.Taken.{Taken as AnyTaken};
+ghost use Rattle.group_rules.specs.Events.{Is, Life};
 ghost use Rattle.group_rules.specs.Member.{Member, push};
-ghost use Rattle.group_rules.specs.Parts.{open_parts};
-ghost use Rattle.group_rules.specs.Taking.{entry_of, take_kept};
-ghost use Rattle.member_joining.specs.Joins.{MayBe};
-ghost use Rattle.member_moment.specs.Doing.{Does, DoesIf, IsKept};
-ghost use Rattle.member_moment.specs.Standing.{Stands};
-ghost use Rattle.member_ranges.specs.Taking.{takes_on};
-ghost use Rattle.member_moment.specs.Taking.{HasTaken, Hands};
+ghost use Rattle.group_rules.specs.Taking.{takes_slots};
+ghost use Rattle.member_moment.specs.Doing.{DoesIf};
+ghost use Rattle.member_moment.specs.Taking.{HasPassed, HasTaken, Hands, arrives_by, cause_of, holds_online, news_cause, plain_cause};
 
 use crate::moment::Moment;
-use gr_ids::{Inc, MemberState, Memory, ValueId};
+use gr_ids::{Gtid, Inc, MemberState, Memory, ValueId};
 use group_rules::{Cause, Effect, Mark};
 use list_state::{Entered, Held};
 use node_rules::Taken;
@@ -28,8 +27,8 @@ const LAST_PLACE: u64 = 4_398_046_511_104;
 #[derive(Debug, Drop)]
 pub enum Caused {
     Nothing,
-    /// A value that conflicts with the transaction of this GTID.
-    Conflict(ValueId, gr_ids::Gtid),
+    /// A value conflicts with the transaction of this GTID.
+    Conflict(ValueId, Gtid),
     /// A joiner is to be welcomed.
     Welcome(Inc),
     /// This member is removed.
@@ -50,19 +49,29 @@ impl Moment {
         }
     }
 
-    fn take_kept(&mut self, taken: Taken) -> Result<Caused, Memory> {
+    // The node has handed it out already.
+    fn take_kept(&mut self, taken: Taken) -> Result<Caused, Memory>
+        ensures { IfOk result (λ c. (base : Life) (a : Member) → HasPassed taken base a self.old → Hands c base a taken self.new) }
+    {
         let Taken { slot, value, kept } = taken;
         match kept {
             Kept::Skipped => {
-                self.skip(slot, value.id)?;
+                self.marks.push(Mark::Skipped(slot, value.id))?;
                 Ok(Caused::Nothing)
             }
             Kept::At(_, has_effect) => self.take_entry(value, has_effect),
         }
     }
 
-    fn take_entry(&mut self, value: Value, has_effect: bool) -> Result<Caused, Memory> {
-        if self.parts.list().taken().0 >= LAST_PLACE || !is_inc(value.id.origin) {
+    // The value is kept at the next place.
+    fn take_entry(&mut self, value: Value, has_effect: bool) -> Result<Caused, Memory>
+        ensures { IfOk result (λ c. (base : Life) (a : Member) (t : AnyTaken) (p : ℕ) → t.value ≡ value → t.kept ≡ KeptAt p has_effect
+            → HasPassed t base a self.old → Hands c base a t self.new) }
+    {
+        if self.parts.list().taken().0 >= LAST_PLACE {
+            return Ok(Caused::Nothing);
+        }
+        if !is_inc(value.id.origin) {
             return Ok(Caused::Nothing);
         }
         let me = self.me.inc;
@@ -83,33 +92,41 @@ impl Moment {
         Ok(caused)
     }
 
-    /// The member, which isn't in ERROR, takes this state, which isn't ERROR either.
-    pub fn come_to(&mut self, state: MemberState, cause: Cause) -> Result<(), Memory>
-        requires { is_error state ≡ false }
-        ensures { OnOk result (DoesIf (λ a. (is_error (state_of a.life) ≡ false) × MayBe a.life state) (push (Is state cause)) self.old self.new) }
+    /// The member, which takes slots, is ONLINE.
+    pub fn come_online(&mut self, cause: Cause) -> Result<(), Memory>
+        ensures { OnOk result (DoesIf (λ a. takes_slots a.life ≡ true) (push (Is Online cause)) self.old self.new) }
     {
-        self.marks.push(Mark::State(state, cause))?;
-        self.tables.stated(state);
+        self.marks.push(Mark::State(MemberState::Online, cause))?;
+        self.tables.stated(MemberState::Online);
         Ok(())
     }
 }
 
-fn is_inc(inc: Inc) -> bool {
+fn is_inc(inc: Inc) -> bool
+    ensures in_range { result ≡ true → IsInc inc }
+    ensures all { IsInc inc → result ≡ true }
+{
     1 <= inc.server && inc.server <= 32 && 1 <= inc.start
 }
 
-fn is_own_arrival(me: Inc, id: ValueId, held: &Held) -> bool {
+fn is_own_arrival(me: Inc, id: ValueId, held: &Held) -> bool
+    ensures { result ≡ arrives_by me id held.now }
+{
     id.origin == me && is_online(held)
 }
 
-fn is_online(held: &Held) -> bool {
+fn is_online(held: &Held) -> bool
+    ensures { result ≡ holds_online held.now }
+{
     match held {
         Held::Other(Body::Online(_)) => true,
         _ => false,
     }
 }
 
-fn caused_by(me: Inc, value: &Value, entered: &Entered) -> Caused {
+fn caused_by(me: Inc, value: &Value, entered: &Entered) -> Caused
+    ensures { result ≡ cause_of me value.now entered.now.effect entered.now.held }
+{
     match entered.effect {
         Effect::Conflict(gtid) => Caused::Conflict(value.id, gtid),
         Effect::Plain => caused_plainly(me, value, &entered.held),
@@ -117,12 +134,32 @@ fn caused_by(me: Inc, value: &Value, entered: &Entered) -> Caused {
     }
 }
 
-fn caused_plainly(me: Inc, value: &Value, held: &Held) -> Caused {
+fn caused_plainly(me: Inc, value: &Value, held: &Held) -> Caused
+    ensures { result ≡ plain_cause me value.now.id value.now.what held.now }
+{
     match &value.what {
         What::Add(joiner) => Caused::Welcome(joiner.inc),
-        What::Remove(inc) if *inc == me => Caused::Removal,
-        What::Remove(_) => Caused::Nothing,
-        _ if is_own_arrival(me, value.id, held) => Caused::Arrival,
-        _ => Caused::Nothing,
+        What::Remove(inc) => caused_by_removal(me, *inc),
+        What::Noop | What::Body(_) => caused_by_news(me, value.id, held),
+    }
+}
+
+fn caused_by_removal(me: Inc, inc: Inc) -> Caused
+    ensures { result ≡ (if inc_eq inc me then Caused.Removal else Caused.Nothing) }
+{
+    if inc == me {
+        Caused::Removal
+    } else {
+        Caused::Nothing
+    }
+}
+
+fn caused_by_news(me: Inc, id: ValueId, held: &Held) -> Caused
+    ensures { result ≡ news_cause me id held.now }
+{
+    if is_own_arrival(me, id, held) {
+        Caused::Arrival
+    } else {
+        Caused::Nothing
     }
 }

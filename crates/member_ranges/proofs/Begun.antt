@@ -83,7 +83,7 @@ module _ (s : Setup) (good : IsFounding s) where
     shown = λ q w e. absurd (cc e);
     outside = λ e. refl;
     offline = λ e. refl;
-    before = λ e. refl;
+    before = λ e. (refl, record { certified = refl; untaken = λ p. refl; undone = λ p. refl; uncommitted = λ cs. refl });
     welcomed = λ e. absurd (false≢true e);
     waits = λ q w e. absurd (cc e);
     life = (tt, ((y, refl), tt));

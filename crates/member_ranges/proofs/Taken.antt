@@ -48,7 +48,7 @@ pub record Becomes (r : Reading) (v : Value) (p : ℕ) (b : Bool) : Type 0 where
   pub place : p ≡ r.place + 1
   pub effect : b ≡ has_effect r v.what
 
-becomes_at : (r : Reading) (v : Value) (p : ℕ) (b : Bool) → KeptAt p b ≡ became r v → Becomes r v p b
+pub becomes_at : (r : Reading) (v : Value) (p : ℕ) (b : Bool) → KeptAt p b ≡ became r v → Becomes r v p b
 becomes_at r v p b h = go (is_kept r v) refl h
   where
     go : (c : Bool) → is_kept r v ≡ c → KeptAt p b ≡ (if c then KeptAt (r.place + 1) (has_effect r v.what) else IsSkipped) → Becomes r v p b
@@ -151,7 +151,7 @@ module _ (t : Taken) (a : Member) (ok : takes_slots a.life ≡ true) (k : InRang
       offline = λ h. absurd (cc (sym next.had ∙ k.offline h));
       before = λ h. absurd (cc (sym next.had ∙ k.offline h));
       welcomed = k.welcomed;
-      waits = λ q w h. absurd (false≢true (sym q ∙ is_ready.2 (k.waits q w h).down));
+      waits = λ q w h. absurd (false≢true (sym q ∙ is_ready.2 ((k.waits q w h).0).down));
       life = (record { above = omega (arith, later); below = below; value = value; holds = holds; seats = seated_now }, k.life);
     }
 

@@ -25,7 +25,7 @@ use Rattle.group_rules.specs.Life.{is_error, is_offline, state, view_told}
 use Rattle.group_rules.specs.Member.{Member, at_node, push}
 use Rattle.group_rules.specs.View.{seated}
 use Rattle.group_rules.specs.Welcomes.{hear_welcome}
-use Rattle.member_ranges.specs.Ranges.{InRange, IsWaiting, Shows, is_outside}
+use Rattle.member_ranges.specs.Ranges.{InRange, IsUntouched, IsWaiting, Shows, is_outside}
 use Rattle.member_ranges.proofs.Greeted.{told_incs}
 use Rattle.member_ranges.proofs.Passed.{moved}
 use Rattle.member_ranges.proofs.Views.{told_is_view}
@@ -63,6 +63,9 @@ module _ (w : Welcome) (i : IsWelcome w) (a : Member) (k : InRange a) (n : Node)
     reading_is : (u : Turns) → n.turns ≡ Some u → (resumed (told_in w)).reading ≡ u.reading
     reading_is u h = some_is (sym b.reading ∙ ap reading_by h)
 
+    still : IsUntouched a.life → IsUntouched (Is Recovering Welcomed ∷ Enters w ∷ a.life)
+    still u = record { certified = u.certified; untaken = u.untaken; undone = u.undone; uncommitted = u.uncommitted }
+
     joined : is_offline (state a.life) ≡ true → InRange (push (Is Recovering Welcomed) (push (Enters w) (record a { node = n; sent = ms })))
     joined off = record {
       setup = k.setup;
@@ -77,8 +80,8 @@ module _ (w : Welcome) (i : IsWelcome w) (a : Member) (k : InRange a) (n : Node)
       offline = λ h. absurd (false≢true h);
       before = λ h. absurd (false≢true h);
       welcomed = λ h. (w, refl, i);
-      waits = λ q u h. subst (λ (z : Welcome). IsWaiting w.place Recovering z) (some_is h) (record { place = refl; down = refl });
-      life = (tt, (record { welcome = i; place = let z = k.before off in omega (arith, z) }, k.life));
+      waits = λ q u h. (subst (λ (z : Welcome). IsWaiting w.place Recovering z) (some_is h) (record { place = refl; down = refl }), still (k.before off).1);
+      life = (tt, (record { welcome = i; place = let z = (k.before off).0 in omega (arith, z) }, k.life));
     }
 
     -- in ERROR the node begins with it alone

@@ -1,5 +1,5 @@
 -- A member within the ranges that the forms of messages have: all that it sends can be spelt.
-use Rattle.std.specs.Prelude.{◌≡◌, ◌+◌, ◌≤◌, ℕ, Bool, true, false, ◌||◌, Option, Some, None, length}
+use Rattle.std.specs.Prelude.{◌≡◌, ◌+◌, ◌≤◌, ℕ, Bool, true, false, ◌||◌, Option, Some, None, List, [], length}
 use Rattle.byte_forms.specs.Lists.{IsChain}
 use Rattle.gr_ids.specs.declared.names.Inc.{Inc}
 use Rattle.gr_ids.specs.declared.levels.MemberState.{MemberState}
@@ -14,10 +14,12 @@ use Rattle.paxos_forms.specs.declared.welcome.Welcome.{Welcome}
 use Rattle.paxos_ranges.specs.Ranges.{IsInRange}
 use Rattle.node_rules.specs.declared.seat.Seat.{Seat}
 use Rattle.node_rules.specs.Lists.{In}
-use Rattle.group_rules.specs.Events.{Did, Enters, Founds, Is, Restores, Setup, Starts, Took}
-use Rattle.group_rules.specs.Life.{entered, has_give, is_error, is_offline, is_recovering, is_up, state, taken, view}
+use Rattle.group_rules.specs.Events.{Cert, Committed, Did, Done, Enters, Founds, Is, Life, Restores, Setup, Starts, Took}
+use Rattle.group_rules.specs.Life.{certs, entered, entry_at, has_give, is_error, is_offline, is_recovering, is_up, state, taken, view}
 use Rattle.group_rules.specs.Member.{Member}
+use Rattle.group_rules.specs.Queue.{is_done}
 use Rattle.group_rules.specs.View.{View, seated}
+use Rattle.group_rules.specs.World.{committed_of}
 use Rattle.member_ranges.specs.Lives.{AllFit}
 use Rattle.member_ranges.specs.Logs.{HasLog}
 
@@ -67,6 +69,13 @@ pub record Shows (p : ℕ) (v : View) (r : Reading) : Type 0 where
 abbrev pub is_outside : MemberState → Bool
 is_outside s = is_offline s || is_error s
 
+-- no entry was taken, nothing was certified, done or committed
+pub record IsUntouched (l : Life) : Type 0 where
+  pub certified : certs l ≡ []
+  pub untaken : (p : ℕ) → entry_at l p ≡ None
+  pub undone : (p : ℕ) → is_done l p ≡ false
+  pub uncommitted : (cs : List Cert) → committed_of l cs ≡ []
+
 -- until its Give comes a joiner stays at the place of its Add, and isn't ONLINE
 pub record IsWaiting (p : ℕ) (s : MemberState) (w : Welcome) : Type 0 where
   pub place : p ≡ w.place
@@ -84,18 +93,20 @@ pub record InRange (a : Member) : Type 0 where
   pub shown : is_error (state a.life) ≡ false → (w : Turns) → a.node.turns ≡ Some w → Shows (taken a.life) (view a.setup a.life) w.reading
   pub outside : a.node.turns ≡ None → is_outside (state a.life) ≡ true
   pub offline : is_offline (state a.life) ≡ true → a.node.turns ≡ None
-  pub before : is_offline (state a.life) ≡ true → taken a.life ≡ 0
+  pub before : is_offline (state a.life) ≡ true → (taken a.life ≡ 0) × IsUntouched a.life
   pub welcomed : is_recovering (state a.life) ≡ true → (w : Welcome) × (entered a.life ≡ Some w) × IsWelcome w
-  pub waits : has_give a.life ≡ false → (w : Welcome) → entered a.life ≡ Some w → IsWaiting (taken a.life) (state a.life) w
+  pub waits : has_give a.life ≡ false → (w : Welcome) → entered a.life ≡ Some w → IsWaiting (taken a.life) (state a.life) w × IsUntouched a.life
   pub life : AllFit a.setup a.life
 
 -- ---- what changes it
 
--- a begin, a Welcome, an entry, a Give, and a state that isn't ERROR
+-- a begin, a Welcome, an entry, a place that is done, a commit, a Give, and a state that isn't ERROR
 abbrev pub is_of_range : Did → Bool
 is_of_range Founds = true
 is_of_range (Starts x) = true
 is_of_range (Took e) = true
+is_of_range (Done p) = true
+is_of_range (Committed g) = true
 is_of_range (Enters w) = true
 is_of_range (Restores g cs) = true
 is_of_range (Is Error c) = false

@@ -1,6 +1,7 @@
 // A member that is in range stays there.
-ghost use Rattle.std.specs.Prelude.{◌≡◌, ◌≤◌, ◌∷◌, List, false, length, true};
+ghost use Rattle.std.specs.Prelude.{◌≡◌, ◌≤◌, ◌∷◌, ℕ, List, [], false, length, true};
 ghost use Rattle.gr_ids.specs.declared.levels.MemberState.TheVariants.{Online};
+ghost use Rattle.gr_ids.specs.declared.names.Gtid.{Gtid};
 ghost use Rattle.gr_ids.specs.declared.names.Inc.{Inc};
 ghost use Rattle.name_forms.specs.Incs.{IsInc};
 ghost use Rattle.slot_values.specs.Joiners.{IsJoiner};
@@ -19,8 +20,8 @@ ghost use Rattle.node_rules.specs.declared.event.PaxosEvent.{PaxosEvent};
 ghost use Rattle.node_rules.specs.declared.event.PaxosEvent.TheVariants.{Heard};
 ghost use Rattle.node_rules.specs.declared.taken.Taken.{Taken};
 ghost use Rattle.paxos_ranges.specs.Ranges.{IsGiven};
-ghost use Rattle.group_rules.specs.Events.{Cert, Did, Is, Restores, Setup, Stored};
-ghost use Rattle.group_rules.specs.Life.{entered, has_give, is_recovering, state};
+ghost use Rattle.group_rules.specs.Events.{Cert, Committed, Did, Done, Is, Restores, Setup, Stored};
+ghost use Rattle.group_rules.specs.Life.{certs, entered, has_give, is_recovering, state};
 ghost use Rattle.group_rules.specs.Member.{Member, at_node, push};
 ghost use Rattle.group_rules.specs.Recovery.{add_place, certs_given};
 ghost use Rattle.group_rules.specs.Steps.{found, start};
@@ -46,5 +47,7 @@ pub fn members_stay_in_range()
     ensures taken { (t : Taken) (more : List Taken) (a : Member) → (take a.node).took ≡ t ∷ more → takes_slots a.life ≡ true → InRange a → InRange (takes_on t a) }
     ensures restored { (g : Give) (cs : List Cert) (a : Member) → IsGive g → g.place ≡ add_place (entered a.life) → cs ≡ certs_given g.txns
         → is_recovering (state a.life) ≡ true → has_give a.life ≡ false → InRange a → InRange (push (Restores g cs) a) }
+    ensures done { (p : ℕ) (a : Member) → (certs a.life ≡ [] → ⊥) → InRange a → InRange (push (Done p) a) }
+    ensures committed { (g : Gtid) (a : Member) → (certs a.life ≡ [] → ⊥) → InRange a → InRange (push (Committed g) a) }
     ensures arrived { (c : Cause) (a : Member) → takes_slots a.life ≡ true → InRange a → InRange (push (Is Online c) a) }
 {}

@@ -1,6 +1,6 @@
 use Rattle.paxos_ranges.proofs.Rows.{step_spelt}
 use Rattle.member_ranges.proofs.Begun.{founded_in_range, started_in_range}
-use Rattle.member_ranges.proofs.Passed.{arrives, passed, restored, sends_others, steps}
+use Rattle.member_ranges.proofs.Passed.{arrives, committed_in_range, done_in_range, passed, restored, sends_others, steps}
 use Rattle.member_ranges.proofs.Taken.{taken_in_range}
 use Rattle.member_ranges.proofs.Welcomed.{greeted}
 use Rattle.member_ranges.proofs.staying.members_stay_in_range.Goals as goal
@@ -31,6 +31,12 @@ returns-clause-taken c = taken_in_range
 
 pub returns-clause-restored : goal.returns-clause-restored
 returns-clause-restored c = restored
+
+pub returns-clause-done : goal.returns-clause-done
+returns-clause-done c = done_in_range
+
+pub returns-clause-committed : goal.returns-clause-committed
+returns-clause-committed c = committed_in_range
 
 pub returns-clause-arrived : goal.returns-clause-arrived
 returns-clause-arrived c = arrives
