@@ -9,11 +9,14 @@ mod calling;
 mod ending;
 mod joining;
 mod moment;
+mod offering;
 mod ordering;
 mod owning;
 mod saying;
 mod taking;
 mod welcoming;
+mod telling;
+mod watching;
 //mod working;
 
 pub use moment::{Left, Moment};
