@@ -1,108 +1,106 @@
--- A commit that is asked, and its transaction sent.
-use Rattle.std.proofs.Common.{◌≡◌, ◌++◌, ◌∷◌, ◌+◌, ℕ, Bool, true, false, Some, List, [], length, Ok, Err, refl, sym, subst, ap, ◌∙◌, arith}
+-- An ask, and its failure.
+use Rattle.std.proofs.Common.{◌≡◌, Bool, true, false, not, ◌&&◌, Option, option_to_list, List, [], ◌∷◌, ◌++◌, arith, map, refl, sym, subst, ap, ◌∙◌}
+use Rattle.std.specs.Prelude.{if◌then◌else◌, is_some}
+use Rattle.std.proofs.lemmas.Bool.{and_parts}
 use Rattle.std.proofs.lemmas.List.{append-nil}
-use Rattle.std.specs.Prelude.{OnOk, Result, nat_le}
-use Rattle.gr_ids.specs.declared.memory.Memory.{Memory}
+use Rattle.gr_ids.specs.Names.{inc_eq}
 use Rattle.gr_ids.specs.declared.names.Inc.{Inc}
-use Rattle.gr_ids.specs.declared.names.ValueId.{ValueId}
-use Rattle.slot_values.specs.declared.value.Joiner.{Joiner}
-use Rattle.slot_values.specs.declared.value.What.TheVariants.{Body as Says}
-use Rattle.txn_forms.specs.declared.body.Body.TheVariants.{Txn as Writes}
-use Rattle.txn_forms.specs.declared.body.Txn.{Txn}
-use Rattle.txn_forms.specs.Parts.{whole_bytes}
-use Rattle.group_rules.specs.declared.answers.Answer.{Answer}
-use Rattle.group_rules.specs.declared.answers.Answer.TheVariants.{Sent}
-use Rattle.group_rules.specs.declared.marks.Mark.TheVariants.{Answered as AnsweredMark}
-use Rattle.group_rules.specs.declared.requests.Request.TheVariants.{Commit}
-use Rattle.group_rules.specs.Calls.{ask_commit, call, own_part, send_parts, send_txn, txn_of}
-use Rattle.group_rules.specs.Events.{Answered, AsksCommit, Life}
-use Rattle.group_rules.specs.Life.{last_made}
-use Rattle.group_rules.specs.Member.{Member, answer, for_each, own, push}
-use Rattle.group_rules.specs.Parts.{cut}
-use Rattle.group_rules.specs.Sessions.{is_holding, phase}
-use Rattle.local_sessions.specs.declared.commit_step.CommitStep.TheVariants.{Ready}
-use Rattle.local_sessions.specs.Acting.{done_by, reply_to, sent_as}
-use Rattle.local_sessions.specs.Replies.{Reply}
-use Rattle.local_sessions.specs.Standing.{session_in}
-use Rattle.local_sessions.proofs.Awaited.{last_part}
-use Rattle.member_parts.proofs.Passed.{asked as parts_asked}
-use Rattle.member_tables.specs.declared.tables.MemberTables.{MemberTables}
-use Rattle.member_tables.specs.Calling.{IsSendable, OnceSent}
-use Rattle.member_tables.specs.Standing.{TablesFor}
-use Rattle.member_tables.proofs.Called.{is_reply}
-use Rattle.member_truth.specs.Ranged.{IsSpelt}
+use Rattle.name_forms.specs.Incs.{IsInc}
+use Rattle.paxos_forms.specs.Messages.{IsMessage, IsWire}
+use Rattle.paxos_forms.specs.declared.message.Wire.{Wire}
+use Rattle.paxos_forms.specs.declared.message.Wire.TheVariants.{Ask as Asks}
+use Rattle.paxos_forms.specs.declared.recovery.Ask.{Ask}
+use Rattle.node_rules.specs.Node.{message}
+use Rattle.donor_recovery.specs.Asking.{Asking}
+use Rattle.group_rules.specs.declared.marks.Reply.TheVariants.{Asked}
+use Rattle.group_rules.specs.Events.{AskFails, Did, Life, Replied, mark_of}
+use Rattle.group_rules.specs.Life.{certs, is_recovering, last_made, state}
+use Rattle.group_rules.specs.Member.{Member, push, send}
+use Rattle.group_rules.specs.Recovery.{ask_wire, given_of, is_ask_due, pending_ask, unless_self}
+use Rattle.group_rules.specs.World.{committed_of}
+use Rattle.local_sessions.specs.Following.{touches}
+use Rattle.member_truth.specs.Ranged.{IsRangedDid}
+use Rattle.member_parts.specs.Standing.{is_of_parts}
+use Rattle.member_parts.proofs.Passed.{passes as parts_pass}
+use Rattle.member_own.specs.Keeping.{is_of_own}
+use Rattle.member_own.proofs.Kept.{passes as own_passes}
+use Rattle.member_joining.specs.Asking.{ask_in, asked, failed, is_ask_due_by, may_ask, pending_in}
+use Rattle.member_joining.specs.Joins.{JoinsBy}
+use Rattle.member_joining.proofs.Joined.{asks, fails}
+use Rattle.member_joining.proofs.Told.{due_told, wire_told}
+use Rattle.member_ranges.specs.Ranges.{is_of_range}
+use Rattle.member_ranges.proofs.Passed.{passed as said}
+use Rattle.member_ranges.proofs.Sent.{ask_is}
+use Rattle.member_tables.specs.Standing.{TablesFor, is_of_tables}
+use Rattle.member_tables.proofs.Kept.{stands_on}
 use Rattle.member_moment.specs.declared.moment.Moment.{Moment}
-use Rattle.member_moment.specs.Calling.{sends_body}
-use Rattle.member_moment.specs.Doing.{Does}
-use Rattle.member_moment.specs.Standing.{RestFor}
-use Rattle.member_moment.proofs.Aside.{aside_of, other_tables, passed, rest_of}
-use Rattle.member_moment.proofs.Pushed.{rest_said}
-use Rattle.member_moment.proofs.Sending.{Keeps, SendsBody}
+use Rattle.member_moment.specs.Standing.{Marked, RestFor, Stands}
+use Rattle.member_moment.specs.Doing.{Does, DoesIf}
+use Rattle.member_moment.specs.Joining.{asks_of}
+use Rattle.member_moment.proofs.Pushed.{marked}
 
--- the commit is asked as the last of the values that are made next, by whether the body is sent whole
-module _ (s : ℕ) (t : Txn) (b : List ℕ) (a : Member) where
-  abbrev id_by : Bool → ValueId
-  id_by z = record { origin = a.me.inc; number = last_made a.life + (elim z [ true ↦ 1 | false ↦ length (cut b) ]) }
+-- nothing but a mark is kept of it, beside the joining
+pub record IsOfAsks (d : Did) (a : Member) : Type 0 where
+  pub parts : is_of_parts d ≡ false
+  pub own : is_of_own d ≡ false
+  pub range : is_of_range d ≡ false
+  pub ranged : IsRangedDid d
+  pub committed : committed_of (d ∷ a.life) (certs (d ∷ a.life)) ≡ committed_of a.life (certs a.life)
+  pub sessions : touches d ≡ false
+  pub tables : is_of_tables d ≡ false
+  pub made : last_made (d ∷ a.life) ≡ last_made a.life
 
-  abbrev sends_by : Bool → Member → Member
-  sends_by z c = elim z [ true ↦ own (Says b) (Some (Writes t)) c | false ↦ for_each (own_part t) (cut b) c ]
+-- the joining has it, and the marks
+pub joins_on : (d : Did) (base : Life) (a : Member) (x y : Moment) → y ≡ record x { joining = y.joining; marks = y.marks } → y.marks.items ≡ x.marks.items ++ option_to_list (mark_of d)
+    → JoinsBy (d ∷ a.life) y.joining → IsOfAsks d a → Stands base a x → Stands base (push d a) y
+joins_on d base a x y e m j i st = let r = st.rest in subst (λ z. Stands base (push d a) z) (sym e) (record {
+  rest = record {
+    me = r.me;
+    contact = r.contact;
+    limits = r.limits;
+    node = r.node;
+    parts = parts_pass a.setup a.me.inc a.life d x.parts i.parts r.parts;
+    own = own_passes a.me.inc a.life x.own d i.own r.own;
+    joining = j;
+    committed = r.committed ∙ ap (map given_of) (sym i.committed);
+    marks = subst (Marked base (d ∷ a.life)) (sym m) (marked base a.life x.marks.items d r.marks);
+    sent = r.sent;
+    range = said d a i.range r.range;
+    sent_range = r.sent_range;
+    ranged = (i.ranged, r.ranged);
+  };
+  tables = stands_on a.setup a.me.inc a.life x.tables d i.sessions i.tables (omega (arith, i.made)) st.tables;
+})
 
-  abbrev txn_by : Bool → Member
-  txn_by z = elim z [ true ↦ ask_commit s (last_made a.life + 1) (own (Says b) (Some (Writes t))) a | false ↦ send_parts s t (cut b) a ]
+-- ---- the ask
 
-  last_by : (z : Bool) → last_made (sends_by z (push (AsksCommit s (id_by z)) a)).life ≡ (id_by z).number
-  last_by true = omega arith
-  last_by false = last_part t (cut b) (push (AsksCommit s (id_by false)) a)
+is_due_both : (a : Member) (x : Option Asking) → JoinsBy a.life x → is_ask_due a ≡ true → (is_recovering (state a.life) ≡ true) × (may_ask x ≡ true)
+is_due_both a x j h = and_parts (is_recovering (state a.life)) (may_ask x) (sym (due_told a x j) ∙ h)
 
-  sent_by : (z : Bool) → txn_by z ≡ answer s (Sent (id_by z)) (sends_by z (push (AsksCommit s (id_by z)) a))
-  sent_by true = refl
-  sent_by false = refl
+module _ (base : Life) (a : Member) (x y : Moment) (donor : Inc) (e : y ≡ record x { joining = y.joining; marks = y.marks }) (due : is_ask_due a ≡ true) (st : Stands base a x) where
+  pub replied : y.marks.items ≡ x.marks.items ++ option_to_list (mark_of (Replied (Asked donor))) → y.joining ≡ asked donor x.joining → Stands base (push (Replied (Asked donor)) a) y
+  replied m j =
+      joins_on (Replied (Asked donor)) base a x y e m
+      (subst (λ z. JoinsBy (Replied (Asked donor) ∷ a.life) z) (sym j) (asks a.life donor x.joining st.rest.joining (is_due_both a x.joining st.rest.joining due).1))
+      (record { parts = refl; own = refl; range = refl; ranged = tt; committed = refl; sessions = refl; tables = refl; made = refl }) st
 
-  last_sent : last_made (sends_body t b (push (AsksCommit s (sent_as b a)) a)).life ≡ (sent_as b a).number
-  last_sent = last_by (nat_le (length b) whole_bytes)
+  -- it can be spelt
+  pub ask_spelt : (ask : Ask) → ask ≡ ask_in x.joining → IsInc donor → (Asks ask ≡ ask_wire a) × IsMessage (message a.node donor (Asks ask))
+  ask_spelt ask k i =
+      let both = is_due_both a x.joining st.rest.joining due in
+      let w : Asks ask ≡ ask_wire a = ap (λ z. Asks z) k ∙ wire_told a x.joining st.rest.joining both.1 in
+      (w, record { from = st.rest.range.node.me; to = i; wire = subst (λ z. IsWire z) (sym w) (ask_is a st.rest.range both.0 st.tables.tables.canonical) })
 
-  is_sent : send_txn s t b a ≡ answer s (Sent (sent_as b a)) (sends_body t b (push (AsksCommit s (sent_as b a)) a))
-  is_sent = sent_by (nat_le (length b) whole_bytes)
+-- it is sent, or the incarnation is named itself
+pub unless_it : (d : Inc) (w : Wire) (b : Member) (t : Bool) → inc_eq d b.me.inc ≡ t → unless_self d w b ≡ elim t [ true ↦ b | false ↦ send d w b ]
+unless_it d w b t e = ap (λ z. elim z [ true ↦ b | false ↦ send d w b ]) e
 
--- what becomes of the rest and of the tables
-abbrev pub SendsTxn : ℕ → List ℕ → Moment → Moment → Type 0
-SendsTxn s b x z = (base : Life) (a : Member) (t : Txn) → IsSpelt (Some (Writes t)) → is_holding (phase a.life s) ≡ false → RestFor base a x → OnceSent s b a x.tables
-    → RestFor base (send_txn s t b a) z × TablesFor (call s Commit a) z.tables
+-- ---- its failure
 
-pub txn_is_sent : (x y z : Moment) (s : ℕ) (b : List ℕ) (n : ℕ) (w : Answer) → SendsBody b x y → Keeps x y → n ≡ y.own.made → w ≡ Sent (record { origin = y.me.inc; number = n })
-    → ((a : Member) (c : List ℕ) → record { origin = y.me.inc; number = n } ≡ sent_as c a → OnceSent s c a y.tables → TablesFor (call s Commit a) z.tables)
-    → z ≡ record y { tables = z.tables; marks = z.marks } → z.marks.items ≡ y.marks.items ++ AnsweredMark s w ∷ [] → SendsTxn s b x z
-txn_is_sent x y z s b n w f keeps e g h same m = λ base a t k q r o.
-    let j : ValueId = sent_as b a in
-    let asks : RestFor base (push (AsksCommit s j) a) x =
-    rest_of base (push (AsksCommit s j) a) x
-    (passed base a x x refl (AsksCommit s j) (sym (append-nil x.marks.items)) (record { own = refl; range = refl; ranged = tt; committed = refl }) refl (aside_of base a x r))
-    (parts_asked a.setup a.me.inc a.life s j x.parts q r.parts) in
-    let sends : RestFor base (sends_body t b (push (AsksCommit s j) a)) y = f base (push (AsksCommit s j) a) t k asks in
-    let me : y.me ≡ a.me = ap (λ (v : Moment). v.me) keeps ∙ r.me in
-    let named : Inc → ℕ → ValueId = λ o k. record { origin = o; number = k } in
-    let id : named y.me.inc n ≡ j = ap (λ o. named o n) (ap (λ (v : Joiner). v.inc) me) ∙ ap (named a.me.inc) (e ∙ (sends.own.number ∙ last_sent s t b a)) in
-    let mark : z.marks.items ≡ y.marks.items ++ AnsweredMark s (Sent j) ∷ [] = m ∙ (ap (λ v. y.marks.items ++ AnsweredMark s v ∷ []) (g ∙ ap Sent id)) in
-    let tables : y.tables ≡ x.tables = ap (λ (v : Moment). v.tables) keeps in (
-      subst (λ c. RestFor base c z) (sym (is_sent s t b a))
-          (rest_said base (sends_body t b (push (AsksCommit s j) a)) (record y { tables = z.tables }) (Answered s (Sent j)) z same mark
-          (record { parts = refl; own = refl; joining = refl; range = refl; ranged = tt; committed = refl }) (other_tables base (sends_body t b (push (AsksCommit s j) a)) y z.tables sends)),
-      h a b id (subst (λ u. OnceSent s b a u) (sym tables) o),
-    )
-
--- ---- a commit that hands out a body
-
-does_send : (x z : Moment) (t : MemberTables) (s : ℕ) (b : List ℕ) → (reply_to x.tables.tables (session_in x.tables.sessions s) Commit).answer ≡ Ready b
-    → ((a : Member) → TablesFor a x.tables → OnceSent s b a t) → ((a : Member) → TablesFor a x.tables → IsSendable (Ready b) s a) → SendsTxn s b (record x { tables = t }) z → Does (call s Commit) x z
-does_send x z t s b e once spelt f = λ base a p st.
-    let q : Reply = reply_to x.tables.tables (session_in x.tables.sessions s) Commit in
-    let is : call s Commit a ≡ send_txn s (txn_of s a) b a = is_reply a x.tables s Commit st.tables ∙ ap (λ w. done_by s Commit w q.deed a) e in
-    let k = spelt a st.tables in
-    let both = f base a (txn_of s a) k.1.1 k.1.0 (other_tables base a x t st.rest) (once a st.tables) in
-    record { rest = subst (λ c. RestFor base c z) (sym is) both.0; tables = both.1 }
-
-pub does_commit : (x z : Moment) (t : MemberTables) (s : ℕ) (b : List ℕ) (o : Result (Unit {0}) Memory) → (reply_to x.tables.tables (session_in x.tables.sessions s) Commit).answer ≡ Ready b
-    → ((a : Member) → TablesFor a x.tables → OnceSent s b a t) → ((a : Member) → TablesFor a x.tables → IsSendable (Ready b) s a) → OnOk o (SendsTxn s b (record x { tables = t }) z)
-    → OnOk o (Does (call s Commit) x z)
-does_commit x z t s b (Ok u) e once spelt f = does_send x z t s b e once spelt f
-does_commit x z t s b (Err m) e once spelt f = tt
+pub fails_once : (x y : Moment) → y ≡ record x { joining = y.joining } → y.joining ≡ (if is_some (pending_in x.joining) then failed x.joining else x.joining) → DoesIf (λ a. is_some (pending_ask a.life) ≡ true) (push AskFails) x y
+fails_once x y e j base a h p st =
+    let q : is_some (pending_in x.joining) ≡ true = ap is_some st.rest.joining.pending ∙ h in
+    let k : y.joining ≡ failed x.joining = j ∙ ap (λ b. if b then failed x.joining else x.joining) q in
+    joins_on AskFails base a x y (e ∙ ap (λ (ms : _). record x { joining = y.joining; marks = ms }) (sym (ap (λ (z : Moment). z.marks) e))) (ap (λ (z : Moment). z.marks.items) e ∙ sym (append-nil x.marks.items))
+    (subst (λ z. JoinsBy (AskFails ∷ a.life) z) (sym k) (fails a.life x.joining st.rest.joining h))
+    (record { parts = refl; own = refl; range = refl; ranged = tt; committed = refl; sessions = refl; tables = refl; made = refl }) st

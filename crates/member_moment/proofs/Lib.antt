@@ -15,3 +15,7 @@ pub mod Owned
 pub mod Spelt
 pub mod Came
 pub mod Opened
+pub mod Welcomed
+pub mod CommitAsked
+pub mod Minded
+pub mod Offered

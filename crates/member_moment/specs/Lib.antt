@@ -9,3 +9,5 @@ pub mod Calling
 pub mod Aside
 pub mod Ending
 pub mod Beginning
+pub mod Telling
+pub mod Watching

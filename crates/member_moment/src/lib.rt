@@ -7,13 +7,17 @@ mod beginning;
 mod calling;
 //mod committing;
 mod ending;
-//mod joining;
+mod joining;
 mod moment;
+mod offering;
 mod opening;
 mod ordering;
 mod owning;
 mod saying;
 mod taking;
+mod telling;
+mod watching;
+mod welcoming;
 //mod working;
 
 pub use moment::{Left, Moment};

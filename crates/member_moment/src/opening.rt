@@ -1,6 +1,5 @@
 // Begins.
 ghost use Rattle.std.specs.Prelude.{◌≡◌, ◌≤◌, OnOk, false};
-ghost use Rattle.gr_ids.specs.declared.levels.Level.{Level as AnyLevel};
 ghost use Rattle.gr_ids.specs.declared.memory.Memory.{Memory};
 ghost use Rattle.txn_forms.specs.declared.body.Body.TheVariants.{Sync};
 ghost use Rattle.group_rules.specs.Calls.{call as calls, send_sync};
@@ -40,7 +39,7 @@ impl Moment {
         }
     }
 
-    // The begin is held, and its Sync is sent. The tables know it already; `state` is the state.
+    // The begin is held, which the tables know already, and its Sync is sent; `state` is the member's.
     fn hold(
         &mut self,
         session: SessionId,

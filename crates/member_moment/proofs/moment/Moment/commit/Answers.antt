@@ -3,7 +3,7 @@ use Rattle.std.proofs.Common.{refl, subst, ◌∙◌}
 use Rattle.group_rules.specs.declared.requests.Request.TheVariants.{Commit}
 use Rattle.local_sessions.specs.declared.commit_step.CommitStep.{CommitStep}
 use Rattle.member_tables.specs.Calling.{CommitsTo, IsSendable}
-use Rattle.member_moment.proofs.Asked.{does_commit}
+use Rattle.member_moment.proofs.CommitAsked.{does_commit}
 use Rattle.member_moment.proofs.Called.{does_call}
 use Rattle.member_moment.proofs.moment.Moment.commit.Goals as goal
 

@@ -1,6 +1,6 @@
 -- The body is sent, then the session is told.
 use Rattle.std.proofs.Common.{refl}
-use Rattle.member_moment.proofs.Asked.{txn_is_sent}
+use Rattle.member_moment.proofs.CommitAsked.{txn_is_sent}
 use Rattle.member_moment.proofs.moment.Moment.send_txn.Goals as goal
 
 pub returns : goal.returns
