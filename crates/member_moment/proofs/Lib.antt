@@ -10,3 +10,5 @@ pub mod Uncommitted
 pub mod Owned
 pub mod Spelt
 pub mod Came
+pub mod Causes
+pub mod Taken
