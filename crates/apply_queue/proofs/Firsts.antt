@@ -115,7 +115,7 @@ mark_waits q h = go q.mark refl
     go : (m : Mark) → q.mark ≡ m → q.mark ≡ Waiting
     go Waiting e = e
     go Out e = absurd (true≢false (sym h ∙ ap (λ (n : Mark). is_waiting (record q { mark = n })) e))
-    go (Done cs) e = absurd (true≢false (sym h ∙ ap (λ (n : Mark). is_waiting (record q { mark = n })) e))
+    go (Done cs ws) e = absurd (true≢false (sym h ∙ ap (λ (n : Mark). is_waiting (record q { mark = n })) e))
 
 pub waits_at : (qs : List Queued) (q : Queued) → find is_waiting qs ≡ Some q → q.mark ≡ Waiting
 waits_at qs q e = mark_waits q (passes is_waiting qs q e)

@@ -1,5 +1,6 @@
 -- What a worker's result leaves.
 use Rattle.std.proofs.Common.{◌≡◌, ℕ, Bool, true, false, Some, None, List, [], ◌∷◌, refl, sym, ap, ◌∙◌, eqb, eqb-true, eq-eqb}
+use Rattle.std.specs.Option.{option_map}
 use Rattle.apply_queue.specs.declared.fault.QueueFault.TheVariants.{AlreadyDone, NotQueued}
 use Rattle.std.proofs.lemmas.Slice.Eq.{bytes_eq-Decides}
 use Rattle.gr_ids.specs.declared.names.Inc.{Inc}
@@ -47,8 +48,33 @@ leaves p b a (c ∷ cs) (q ∷ qs) s = go (is_at p q) refl (leaves p b a cs qs s
 pub result_is : (a : Member) (qs : List Queued) (p : ℕ) (b : List ℕ) → QueuedOf a.me.inc a.life qs → work p (Some b) a ≡ with_result p (refusal qs p b) a
 result_is a qs p b w = leaves p b a (queue a.life a.me.inc) qs (stands a.me.inc a.life qs w)
 
+-- the GTID of a queued place is that of its transaction
+gtids_in : (f : ℕ → Bool) (p : ℕ) (cs : List Cert) (qs : List Queued) → Stand f cs qs → option_map (λ (q : Queued). q.gtid) (queued_at qs p) ≡ option_map (λ (c : Cert). c.gtid) (at_place cs p)
+gtids_in f p [] [] s = refl
+gtids_in f p [] (q ∷ qs) s = absurd s
+gtids_in f p (c ∷ cs) [] s = absurd s
+gtids_in f p (c ∷ cs) (q ∷ qs) s = go (is_at p q) refl (gtids_in f p cs qs s.2)
+  where
+    go : (t : Bool) → is_at p q ≡ t → option_map (λ (x : Queued). x.gtid) (queued_at qs p) ≡ option_map (λ (d : Cert). d.gtid) (at_place cs p) → option_map (λ (x : Queued). x.gtid) (queued_at (q ∷ qs) p) ≡ option_map (λ (d : Cert). d.gtid) (at_place (c ∷ cs) p)
+    go true e r =
+        let there : eqb c.place p ≡ true = ap (λ m. eqb m p) (sym (place_is c q s.0)) ∙ e in
+        rw (e, there) (ap (λ (x : Queued). Some x.gtid) s.0)
+    go false e r = let there : eqb c.place p ≡ false = ap (λ m. eqb m p) (sym (place_is c q s.0)) ∙ e in rw (e, there) r
+
+pub gtid_is : (me : Inc) (l : Life) (qs : List Queued) (p : ℕ) → QueuedOf me l qs → option_map (λ (q : Queued). q.gtid) (queued_at qs p) ≡ option_map (λ (c : Cert). c.gtid) (at_place (queue l me) p)
+gtid_is me l qs p w = gtids_in (was_done l) p (queue l me) qs (stands me l qs w)
+
 pub unqueued : (a : Member) (p : ℕ) → work p None a ≡ push (Replied (SaysNotQueued p)) a
 unqueued a p = refl
+
+-- a result that is taken is for this body, and the place isn't done yet
+pub taken_at : (p : ℕ) (b : List ℕ) (q : Queued) → refused_at p b (Some q) ≡ None → (q.body ≡ b) × (is_done q ≡ false)
+taken_at p b q n = go (bytes_eq q.body b) refl (is_done q) refl
+  where
+    go : (x : Bool) → bytes_eq q.body b ≡ x → (y : Bool) → is_done q ≡ y → (q.body ≡ b) × (is_done q ≡ false)
+    go true g true h = absurd (let z : Some (AlreadyDone p) ≡ None = rw (g, h) at n in cc)
+    go true g false h = ((bytes_eq-Decides q.body b).0 g, h)
+    go false g y h = absurd (let z : Some (NotQueued p) ≡ None = rw g at n in cc)
 
 -- where it is taken
 found_in : (f : ℕ → Bool) (p : ℕ) (b : List ℕ) (cs : List Cert) (qs : List Queued) → Stand f cs qs → refused_at p b (queued_at qs p) ≡ None → (c : Cert) × (at_place cs p ≡ Some c) × (body_bytes (Writes c.txn) ≡ b) × (f p ≡ false)
@@ -66,13 +92,8 @@ found_in f p b (c ∷ cs) (q ∷ qs) s n = go (is_at p q) refl (found_in f p b c
     go true e r =
         let here : c.place ≡ p = sym (place_is c q s.0) ∙ eqb-true q.place p e in
         let this : refused_at p b (Some q) ≡ None = rw e at n in
-        let k = tests (bytes_eq q.body b) refl (is_done q) refl this in
-        (c, rw (eq-eqb c.place p here) refl, sym (body_is c q s.0) ∙ (bytes_eq-Decides q.body b).0 k.0, ap f (sym here) ∙ (sym s.1 ∙ k.1))
-      where
-        tests : (x : Bool) → bytes_eq q.body b ≡ x → (y : Bool) → is_done q ≡ y → refused_at p b (Some q) ≡ None → (bytes_eq q.body b ≡ true) × (is_done q ≡ false)
-        tests true g true h u = absurd (let z : Some (AlreadyDone p) ≡ None = rw (g, h) at u in cc)
-        tests true g false h u = (g, h)
-        tests false g y h u = absurd (let z : Some (NotQueued p) ≡ None = rw g at u in cc)
+        let k = taken_at p b q this in
+        (c, rw (eq-eqb c.place p here) refl, sym (body_is c q s.0) ∙ k.0, ap f (sym here) ∙ (sym s.1 ∙ k.1))
 
 pub found : (me : Inc) (l : Life) (qs : List Queued) (p : ℕ) (b : List ℕ) → QueuedOf me l qs → refusal qs p b ≡ None → (c : Cert) × (at_place (queue l me) p ≡ Some c) × (body_bytes (Writes c.txn) ≡ b) × (was_done l p ≡ false)
 found me l qs p b w n = found_in (was_done l) p b (queue l me) qs (stands me l qs w) n

@@ -14,15 +14,16 @@ use Rattle.group_rules.specs.Queue.{is_done as was_done, is_own, queue}
 use Rattle.apply_queue.specs.declared.fault.QueueFault.{QueueFault}
 use Rattle.apply_queue.specs.declared.fault.QueueFault.TheVariants.{NotQueued, AlreadyDone}
 use Rattle.key_items.specs.declared.change.Change.{Change}
+use Rattle.key_items.specs.declared.item.Item.{Item}
 use Rattle.apply_queue.specs.Queues.{Done as HasChanges, Queued, Waiting, is_done}
 
 -- a place that waits for a worker
 abbrev pub waiting_at : ℕ → Gtid → List ℕ → Queued
 waiting_at p g b = record { place = p; gtid = g; body = b; mark = Waiting }
 
--- a place that is done, with these changes
-abbrev pub done_at : ℕ → Gtid → List ℕ → List Change → Queued
-done_at p g b cs = record { place = p; gtid = g; body = b; mark = HasChanges cs }
+-- a place that is done, with these changes and items
+abbrev pub done_at : ℕ → Gtid → List ℕ → List Change → List Item → Queued
+done_at p g b cs ws = record { place = p; gtid = g; body = b; mark = HasChanges cs ws }
 
 -- a certified transaction as work that waits
 abbrev pub work_of : Cert → Queued

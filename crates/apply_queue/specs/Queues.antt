@@ -5,6 +5,7 @@ use Rattle.std.specs.List.{find, list_all}
 use Rattle.gr_ids.specs.declared.names.Gtid.{Gtid}
 use Rattle.gr_ids.specs.Names.{bytes_eq}
 use Rattle.key_items.specs.declared.change.Change.{Change}
+use Rattle.key_items.specs.declared.item.Item.{Item}
 use Rattle.group_rules.specs.declared.said.QueuedPlace.{QueuedPlace}
 use Rattle.apply_queue.specs.declared.fault.QueueFault.{QueueFault}
 use Rattle.apply_queue.specs.declared.fault.QueueFault.TheVariants.{NotQueued, AlreadyDone}
@@ -18,10 +19,10 @@ pub record Queued : Type 0 where
   pub mark : Mark
 
 abbrev pub is_waiting : Queued → Bool
-is_waiting q = elim q.mark [ Waiting ↦ true | Out ↦ false | Done cs ↦ false ]
+is_waiting q = elim q.mark [ Waiting ↦ true | Out ↦ false | Done cs ws ↦ false ]
 
 abbrev pub is_done : Queued → Bool
-is_done q = elim q.mark [ Waiting ↦ false | Out ↦ false | Done cs ↦ true ]
+is_done q = elim q.mark [ Waiting ↦ false | Out ↦ false | Done cs ws ↦ true ]
 
 -- each place is above all that are queued before it
 abbrev pub is_above : List Queued → ℕ → Bool
@@ -59,8 +60,8 @@ abbrev pub refusal : List Queued → ℕ → List ℕ → Option QueueFault
 refusal qs p bytes = refused_at p bytes (at_place qs p)
 
 -- the place is done
-abbrev pub with_done : List Queued → ℕ → List Change → List Queued
-with_done qs p cs = with_first (is_at p) (λ q. record q { mark = Done cs }) qs
+abbrev pub with_done : List Queued → ℕ → List Change → List Item → List Queued
+with_done qs p cs ws = with_first (is_at p) (λ q. record q { mark = Done cs ws }) qs
 
 -- ---- what may be committed
 

@@ -1,19 +1,20 @@
 // One queued place.
-ghost use Rattle.std.specs.Prelude.{◌≡◌, Some, IfOk, IfSome, IfNone, true, false};
+ghost use Rattle.std.specs.Prelude.{◌≡◌, None, Some, IfErr, IfOk, OnOk, true};
 ghost use Rattle.gr_ids.specs.Names.{bytes_eq};
 ghost use Rattle.gr_ids.specs.declared.memory.Memory.{Memory};
-ghost use Rattle.apply_queue.specs.Works.{changes_in};
-ghost use Rattle.apply_queue.specs.Queues.{Done as IsDone, Out as IsOut, Waiting as IsWaiting, is_done as is_done_now, is_waiting as is_waiting_now, shown as shown_as};
+ghost use Rattle.apply_queue.specs.Works.{AreDecoded};
+ghost use Rattle.apply_queue.specs.Queues.{Done as IsDone, Out as IsOut, Waiting as IsWaiting, is_done as is_done_now, is_waiting as is_waiting_now, refused_at, shown as shown_as};
 
+use crate::fault::QueueFault;
 use crate::mark::Mark;
 use crate::work::{Work, WorkDone};
-use gr_ids::{Blob, Memory, Pos, Sequence};
+use gr_ids::{Blob, Gtid, Memory, Pos, Sequence};
 use group_rules::QueuedPlace;
-use key_items::Change;
+use key_items::{Change, WriteSet};
 use std::alloc::Global;
 use std::marker::Model;
 
-/// A queued place. Where it is done, its changes are those that its bytes spell.
+/// A queued place. Where it is done, its changes and items are those that its bytes spell.
 #[derive(Debug, Drop)]
 pub(crate) struct Entry {
     work: Work,
@@ -21,16 +22,17 @@ pub(crate) struct Entry {
 }
 
 impl Model for Entry {
-    ghost use Rattle.std.specs.Prelude.{◌≡◌, List, Some};
+    ghost use Rattle.std.specs.Prelude.{◌≡◌, List};
     ghost use Rattle.key_items.specs.declared.change.Change.{Change};
-    ghost use Rattle.apply_queue.specs.Works.{changes_in};
+    ghost use Rattle.key_items.specs.declared.item.Item.{Item};
+    ghost use Rattle.apply_queue.specs.Works.{AreDecoded};
     ghost use Rattle.apply_queue.specs.Queues.{Done, Queued};
 
     ghost Value = { Queued };
 
     ghost view = { λ e. record { place = e.work.place; gtid = e.work.gtid; body = e.work.body; mark = e.mark } };
 
-    ghost invariant = { λ e. (cs : List Change) → e.mark ≡ Done cs → changes_in e.work.body ≡ Some cs };
+    ghost invariant = { λ e. (cs : List Change) (ws : List Item) → e.mark ≡ Done cs ws → AreDecoded e.work.body cs ws };
 }
 
 impl Entry {
@@ -49,6 +51,12 @@ impl Entry {
         self.work.place
     }
 
+    pub(crate) fn gtid(&self) -> Gtid
+        ensures { result ≡ self.now.gtid }
+    {
+        self.work.gtid
+    }
+
     pub(crate) fn work(&self) -> &Work
         ensures { (result.now.place ≡ self.now.place) × (result.now.gtid ≡ self.now.gtid) × (result.now.body ≡ self.now.body) }
     {
@@ -60,7 +68,7 @@ impl Entry {
     {
         match self.mark {
             Mark::Waiting => true,
-            Mark::Out | Mark::Done(_) => false,
+            Mark::Out | Mark::Done(..) => false,
         }
     }
 
@@ -69,7 +77,7 @@ impl Entry {
     {
         match self.mark {
             Mark::Waiting | Mark::Out => false,
-            Mark::Done(_) => true,
+            Mark::Done(..) => true,
         }
     }
 
@@ -77,6 +85,21 @@ impl Entry {
         ensures { result ≡ bytes_eq self.now.body body.now }
     {
         self.work.body == *body
+    }
+
+    /// Whether it takes this result, which is for its place; if not, why.
+    pub(crate) fn accepts(&self, done: &WorkDone) -> Result<(), QueueFault>
+        ensures ok { OnOk result (refused_at done.now.place done.now.body (Some self.now) ≡ None) }
+        ensures refused { IfErr result (λ e. refused_at done.now.place done.now.body (Some self.now) ≡ Some e) }
+    {
+        let pos = done.place;
+        if !self.has_bytes(&done.body) {
+            return Err(QueueFault::NotQueued { pos });
+        }
+        if self.is_done() {
+            return Err(QueueFault::AlreadyDone { pos });
+        }
+        Ok(())
     }
 
     pub(crate) fn shown(&self) -> QueuedPlace
@@ -104,24 +127,25 @@ impl Entry {
         self.mark = Mark::Out;
     }
 
-    pub(crate) fn finish(&mut self, changes: Sequence<Change>)
-        requires { changes_in self.old.body ≡ Some changes }
-        ensures { self.new ≡ record self.old { mark = IsDone changes } }
+    pub(crate) fn finish(&mut self, changes: Sequence<Change>, items: WriteSet)
+        requires { AreDecoded self.old.body changes items }
+        ensures { self.new ≡ record self.old { mark = IsDone changes items } }
     {
-        self.mark = Mark::Done(changes);
+        self.mark = Mark::Done(changes, items);
     }
 
     /// The result of a place that is done.
     pub(crate) fn into_done(self) -> WorkDone
         requires { is_done_now self ≡ true }
-        ensures { (result.place ≡ self.place) × (result.body ≡ self.body) × (self.mark ≡ IsDone result.changes) }
+        ensures { (result.place ≡ self.place) × (result.body ≡ self.body) × (self.mark ≡ IsDone result.changes result.items) }
     {
         let Entry { work, mark } = self;
         match mark {
-            Mark::Done(changes) => WorkDone {
+            Mark::Done(changes, items) => WorkDone {
                 place: work.place,
                 body: work.body,
                 changes,
+                items,
             },
             Mark::Waiting | Mark::Out => unreachable!(),
         }

@@ -1,6 +1,7 @@
 // What a queue stands for.
 ghost use Rattle.std.specs.Prelude.{◌≡◌, ◌<◌, ◌∷◌, ◌++◌, ℕ, [], List, None, Some, false, map, true};
 ghost use Rattle.std.specs.List.{list_all};
+ghost use Rattle.std.specs.Option.{option_map};
 ghost use Rattle.gr_ids.specs.Names.{gtid_eq};
 ghost use Rattle.gr_ids.specs.declared.levels.MemberState.{MemberState};
 ghost use Rattle.gr_ids.specs.declared.levels.MemberState.TheVariants.{Error};
@@ -9,6 +10,7 @@ ghost use Rattle.gr_ids.specs.declared.names.Inc.{Inc};
 ghost use Rattle.gtid_sets.specs.Canonical.{IsCanonical, IsNumber, IsUuid};
 ghost use Rattle.gtid_sets.specs.Sets.{Gtids};
 ghost use Rattle.key_items.specs.declared.change.Change.{Change};
+ghost use Rattle.key_items.specs.declared.item.Item.{Item};
 ghost use Rattle.node_rules.specs.Lists.{In};
 ghost use Rattle.paxos_forms.specs.declared.recovery.Give.{Give};
 ghost use Rattle.txn_forms.specs.Bodies.{body_bytes};
@@ -23,7 +25,7 @@ ghost use Rattle.group_rules.specs.Member.{Member, push};
 ghost use Rattle.group_rules.specs.Queue.{all_below, at_place, is_done as was_done, is_own, pending, queue};
 ghost use Rattle.group_rules.specs.Steps.{work};
 ghost use Rattle.apply_queue.specs.Following.{IsRising, QueuedOf, as_queued, is_of_queue, is_other, with_certified, with_result, without, work_of, works_of};
-ghost use Rattle.apply_queue.specs.Queues.{Queued, front_is_done, handed_out, is_above, is_done, refusal, shown, with_done};
+ghost use Rattle.apply_queue.specs.Queues.{Queued, at_place as queued_at, front_is_done, handed_out, is_above, is_done, refusal, shown, with_done};
 
 /// A queue stands for a history: with an entry that is certified, and one that isn't; with a place that is handed out, and one that is
 /// done; with a commit, a Give, a state; in ERROR it is empty; and what else happens changes nothing.
@@ -34,8 +36,8 @@ pub fn queues_are_those_of_the_rules()
         → cert_of e ≡ c ∷ [] → was_done l c.place ≡ false → QueuedOf me (Took e ∷ l) (with_certified me (executed l) qs c) }
     ensures taken { (me : Inc) (l : Life) (e : Entry) (qs : List Queued) → QueuedOf me l qs → cert_of e ≡ [] → QueuedOf me (Took e ∷ l) qs }
     ensures handed { (me : Inc) (l : Life) (qs : List Queued) → QueuedOf me l qs → QueuedOf me l (handed_out qs) }
-    ensures done { (me : Inc) (l : Life) (p : ℕ) (cs : List Change) (qs : List Queued) → QueuedOf me l qs → IsRising (queue l me)
-        → QueuedOf me (Done p ∷ l) (with_done qs p cs) }
+    ensures done { (me : Inc) (l : Life) (p : ℕ) (cs : List Change) (ws : List Item) (qs : List Queued) → QueuedOf me l qs → IsRising (queue l me)
+        → QueuedOf me (Done p ∷ l) (with_done qs p cs ws) }
     ensures committed { (me : Inc) (l : Life) (g : Gtid) (qs : List Queued) → QueuedOf me l qs → IsCanonical (executed l) → IsUuid g.source
         → IsNumber g.number → QueuedOf me (Committed g ∷ l) (without g qs) }
     ensures restored { (me : Inc) (l : Life) (g : Give) (cs : List Cert) → is_error (state l) ≡ false → ((p : ℕ) → was_done l p ≡ false)
@@ -66,11 +68,13 @@ pub fn pushes_are_those_of_the_rules()
 {}
 
 /// A worker's result is taken and refused as the rules of the group have it; where it is taken, a transaction with its bytes is queued
-/// there and isn't done.
+/// there and isn't done. A queued place has the GTID of its transaction.
 pub fn results_are_those_of_the_rules()
     ensures result { (a : Member) (qs : List Queued) (p : ℕ) (b : List ℕ) → QueuedOf a.me.inc a.life qs
         → work p (Some b) a ≡ with_result p (refusal qs p b) a }
     ensures unqueued { (a : Member) (p : ℕ) → work p None a ≡ push (Replied (SaysNotQueued p)) a }
+    ensures gtid { (me : Inc) (l : Life) (qs : List Queued) (p : ℕ) → QueuedOf me l qs
+        → option_map (λ q. q.gtid) (queued_at qs p) ≡ option_map (λ c. c.gtid) (at_place (queue l me) p) }
     ensures found { (me : Inc) (l : Life) (qs : List Queued) (p : ℕ) (b : List ℕ) → QueuedOf me l qs → refusal qs p b ≡ None
         → (c : Cert) × (at_place (queue l me) p ≡ Some c) × (body_bytes (Writes c.txn) ≡ b) × (was_done l p ≡ false) }
 {}

@@ -3,12 +3,13 @@ ghost use Rattle.std.specs.Prelude.{◌≡◌, ◌++◌, ◌∷◌, [], None, So
 ghost use Rattle.gr_ids.specs.declared.names.Gtid.{Gtid as AnyGtid};
 ghost use Rattle.gr_ids.specs.declared.memory.Memory.{Memory};
 ghost use Rattle.apply_queue.specs.Queues.{Done as IsDone, Mark, Waiting as IsWaiting, at_place, first_waiting, front_is_done, handed_out, is_above, is_below, next_commit, refusal, shown, with_done};
+ghost use Rattle.std.specs.Option.{option_map};
 
 use crate::entry::Entry;
 use crate::fault::QueueFault;
 use crate::scan::{first_waiting_from, index_of, shown_all};
 use crate::work::{Work, WorkDone};
-use gr_ids::{Memory, Pos, Sequence};
+use gr_ids::{Gtid, Memory, Pos, Sequence};
 use group_rules::QueuedPlace;
 use std::alloc::Global;
 use std::collections::VecDeque;
@@ -82,32 +83,41 @@ impl Queue {
         Some(entry.work())
     }
 
+    /// The GTID of the place for which a worker's result is, if `done` takes it; why it refuses it if not. Linear in the places before it; takes
+    /// no memory.
+    pub fn accepts(&self, done: &WorkDone) -> Result<Gtid, QueueFault>
+        ensures ok { OnOk result (refusal self.now done.now.place done.now.body ≡ None) }
+        ensures gtid { IfOk result (λ g. option_map (λ q. q.gtid) (at_place self.now done.now.place) ≡ Some g) }
+        ensures refused { IfErr result (λ e. refusal self.now done.now.place done.now.body ≡ Some e) }
+    {
+        let at = index_of(&self.entries, done.place);
+        let Some(entry) = self.entries.get(at) else {
+            return Err(QueueFault::NotQueued { pos: done.place });
+        };
+        entry.accepts(done)?;
+        Ok(entry.gtid())
+    }
+
     /// A worker's result makes its place done. Refused where the place isn't queued with these bytes, and where it is done already.
     /// Linear in the places before it; takes no memory.
     pub fn done(&mut self, done: WorkDone) -> Result<(), QueueFault>
-        ensures ok { OnOk result ((refusal self.old done.place done.body ≡ None) × (self.new ≡ with_done self.old done.place done.changes)) }
+        ensures ok { OnOk result ((refusal self.old done.place done.body ≡ None) × (self.new ≡ with_done self.old done.place done.changes done.items)) }
         ensures refused { IfErr result (λ e. refusal self.old done.place done.body ≡ Some e) }
         ensures err { OnErr result (self.new ≡ self.old) }
     {
-        let pos = done.place;
-        let at = index_of(&self.entries, pos);
+        let at = index_of(&self.entries, done.place);
         let Some(entry) = self.entries.get_mut(at) else {
-            return Err(QueueFault::NotQueued { pos });
+            return Err(QueueFault::NotQueued { pos: done.place });
         };
-        if !entry.has_bytes(&done.body) {
-            return Err(QueueFault::NotQueued { pos });
-        }
-        if entry.is_done() {
-            return Err(QueueFault::AlreadyDone { pos });
-        }
-        entry.finish(done.changes);
+        entry.accepts(&done)?;
+        entry.finish(done.changes, done.items);
         Ok(())
     }
 
     /// Takes the least place out of the queue where it is done and below the barrier, if there is one. Takes constant time, and no memory.
     pub fn commits(&mut self, barrier: Option<Pos>) -> Option<WorkDone>
         ensures none { IfNone result ((next_commit self.old barrier ≡ None) × (self.new ≡ self.old)) }
-        ensures some { IfSome result (λ d. (g : AnyGtid) × (self.old ≡ record { place = d.place; gtid = g; body = d.body; mark = IsDone d.changes } ∷ self.new) × (is_below barrier d.place ≡ true)) }
+        ensures some { IfSome result (λ d. (g : AnyGtid) × (self.old ≡ record { place = d.place; gtid = g; body = d.body; mark = IsDone d.changes d.items } ∷ self.new) × (is_below barrier d.place ≡ true)) }
     {
         let front = self.entries.front()?;
         if !front.is_done() || !is_below_barrier(front.place(), barrier) {

@@ -92,7 +92,9 @@ fn results_of_other_places_are_refused(rt: HostRuntime) -> Result<(), Fail> {
         (4, b'b', Ok(())),
     ];
     for (place, key, answer) in rows.iter() {
-        assert_eq!(rt; queue.done(done(&rt, alloc, *place, *key)?), *answer);
+        let done = done(&rt, alloc, *place, *key)?;
+        assert_eq!(rt; queue.accepts(&done).err(), answer.err());
+        assert_eq!(rt; queue.done(done), *answer);
     }
     assert!(rt; queue.work(Pos(3)).is_none());
     assert!(rt; queue.work(Pos(4)).is_some());

@@ -1,12 +1,12 @@
 // What a worker does.
-ghost use Rattle.std.specs.Prelude.{◌≡◌, true, Some, IfOk};
+ghost use Rattle.std.specs.Prelude.{◌≡◌, true, IfOk};
 ghost use Rattle.gr_ids.specs.declared.memory.Memory.{Memory};
-ghost use Rattle.apply_queue.specs.Works.{changes_in, spells_txn};
+ghost use Rattle.apply_queue.specs.Works.{AreDecoded, spells_txn};
 
 use gr_ids::{Blob, Gtid, Memory, Pos, Sequence};
-use key_items::Change;
+use key_items::{Change, WriteSet};
 use std::alloc::Global;
-use txn_forms::{Body, BodyFault, decode};
+use txn_forms::{Body, BodyFault, Txn, decode};
 
 /// A queued transaction, whose body spells one.
 #[derive(Debug, Drop)]
@@ -17,13 +17,14 @@ pub struct Work {
     ghost spells: { spells_txn body ≡ true },
 }
 
-/// A worker's result: the changes that the bytes of the place spell.
+/// A worker's result: the changes that the bytes of the place spell, and the items that they write.
 #[derive(Debug, Drop)]
 pub struct WorkDone {
     pub place: Pos,
     pub body: Blob,
     pub changes: Sequence<Change>,
-    ghost decoded: { changes_in body ≡ Some changes },
+    pub items: WriteSet,
+    ghost decoded: { AreDecoded body changes items },
 }
 
 impl WorkDone {
@@ -36,21 +37,22 @@ impl WorkDone {
             gtid: _,
             body,
         } = work;
-        let changes = changes_of(alloc, &body)?;
+        let txn = txn_of(alloc, &body)?;
         Ok(WorkDone {
             place,
             body,
-            changes,
+            changes: txn.changes,
+            items: txn.items,
         })
     }
 }
 
-fn changes_of(alloc: Global, body: &Blob) -> Result<Sequence<Change>, Memory>
+fn txn_of(alloc: Global, body: &Blob) -> Result<Txn, Memory>
     requires { spells_txn body.now ≡ true }
-    ensures { IfOk result (λ changes. changes_in body.now ≡ Some changes) }
+    ensures { IfOk result (λ txn. AreDecoded body.now txn.changes txn.items) }
 {
     match decode(alloc, body.as_slice()) {
-        Ok(Body::Txn(txn)) => Ok(txn.changes),
+        Ok(Body::Txn(txn)) => Ok(txn),
         Ok(_) => unreachable!(),
         Err(BodyFault::Memory) => Err(Memory),
         Err(BodyFault::BadBody { at: _ }) => unreachable!(),

@@ -9,3 +9,4 @@ pub mod Acts
 pub mod Begins
 pub mod Timeouts
 pub mod Falls
+pub mod Turns

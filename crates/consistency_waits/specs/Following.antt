@@ -1,5 +1,5 @@
 -- How held begins stand for a history, and what becomes of them at a member.
-use Rattle.std.specs.Prelude.{◌≡◌, ℕ, Bool, true, false, Option, None, List, min, nat_le}
+use Rattle.std.specs.Prelude.{◌≡◌, ℕ, Bool, true, false, Option, Some, None, List, filter, min, nat_le}
 use Rattle.std.specs.List.{list_all}
 use Rattle.std.specs.Option.{option_map}
 use Rattle.gr_ids.specs.declared.names.Inc.{Inc}
@@ -9,7 +9,7 @@ use Rattle.group_rules.specs.Events.{AsksCommit, Begun, Called, Came, Did, Ends,
 use Rattle.group_rules.specs.Sessions.{Call, is_holding, last_call, phase}
 use Rattle.group_rules.specs.Holds.{conditions, sync_place}
 use Rattle.group_rules.specs.Member.{Member, for_each, last_answer, push}
-use Rattle.consistency_waits.specs.Holding.{Held, Released, ascend, held_in, last_tick}
+use Rattle.consistency_waits.specs.Holding.{Held, Released, ascend, held_in, is_over, last_tick}
 
 -- ---- the holds of a history
 
@@ -48,3 +48,12 @@ begins e rs a = for_each {A = Released} (λ r. push (Begun r.session e r.sync)) 
 -- these have reached their limits
 abbrev pub times_out : List Held → Member → Member
 times_out hs a = for_each {A = Held} (λ h. last_answer h.session (HoldTimeout h.limit)) hs a
+
+-- all that have reached their limits end, ascending
+abbrev pub all_time_out : List Held → Member → Member
+all_time_out hs a = times_out (filter is_over hs) a
+
+-- a session and its limit are handed out: it is the first of them, and the others are left; where none is handed out, there is none
+abbrev pub IsTurn : List Held → List Held → Option (ℕ × ℕ) → Type 0
+IsTurn hs ks None = (a : Member) → all_time_out hs a ≡ a
+IsTurn hs ks (Some o) = (a : Member) → all_time_out hs a ≡ all_time_out ks (last_answer o.0 (HoldTimeout o.1) a)

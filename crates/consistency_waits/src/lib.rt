@@ -1,6 +1,7 @@
 //! Held begins: what each waits for, and how long.
 #![tactic(auto)]
 
+mod calling;
 mod conditions;
 mod held;
 mod laws;
@@ -9,6 +10,7 @@ mod placing;
 mod tests;
 mod waits;
 
+pub use calling::{AtCall, conditions_now};
 pub use held::{Released, Standing};
 pub use laws::{
     a_fall_ends_all_holds, begins_are_those_of_the_rules, holds_follow_their_history,

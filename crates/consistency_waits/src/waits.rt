@@ -2,6 +2,7 @@
 ghost use Rattle.std.specs.Prelude.{◌≡◌, ◌≤◌, [], IfOk, MatchOption, OnErr, OnOk, false, filter, find, map, not, true};
 ghost use Rattle.std.specs.Option.{option_map};
 ghost use Rattle.gr_ids.specs.declared.memory.Memory.{Memory};
+ghost use Rattle.consistency_waits.specs.Following.{IsTurn};
 ghost use Rattle.consistency_waits.specs.Holding.{ascend as is_ascending, is_due, is_held, is_over, new_hold, placed, released_as, ticked, with_hold, without};
 
 use crate::conditions::holds_now;
@@ -104,6 +105,7 @@ impl Waits {
         ensures session { option_map (λ o. o.0) result ≡ option_map (λ h. h.session) (find is_over self.old) }
         ensures limit { option_map (λ o. o.1) result ≡ option_map (λ h. h.limit) (find is_over self.old) }
         ensures rest { MatchOption result (self.new ≡ self.old) (λ o. self.new ≡ without o.0 self.old) }
+        ensures turn { IsTurn self.old self.new result }
         ensures order { is_ascending self.old ≡ true }
     {
         let over = first_over(&self.holds)?;

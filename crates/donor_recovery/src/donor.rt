@@ -9,10 +9,9 @@ ghost use Rattle.donor_recovery.specs.declared.donor.GiveFault.TheVariants.{Memo
 ghost use Rattle.donor_recovery.specs.Donating.{HasNumber, IsGiveFault, at_place, give_from, give_made, gtids_given, is_by as is_by_place, marked, no_adds, with_given};
 
 use crate::at_add::AtAdd;
-use crate::copying::TryCopy;
 use gr_ids::{Memory, Pos, Sequence};
 use gtid_sets::GtidSet;
-use paxos_forms::{Ask, Give, Given};
+use paxos_forms::{Ask, Give, Given, TryCopy};
 use std::alloc::Global;
 use std::collections::BTreeMap;
 use std::marker::Model;

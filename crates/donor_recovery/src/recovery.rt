@@ -119,8 +119,8 @@ impl Recovery {
         })
     }
 
-    // Whether no ask is pending, no Give was taken, and fewer asks failed than may fail.
-    fn is_due(&self) -> bool
+    /// Whether a donor may be asked: no ask is pending, no Give was taken, and fewer than ten asks failed.
+    pub fn is_due(&self) -> bool
         ensures { result ≡ is_due self.now }
     {
         self.pending.is_none() && !self.has_give && self.failures < TRIES
@@ -141,6 +141,20 @@ impl Recovery {
             return Ok(());
         }
         Err(RecoveryFault::NoDonor { tries: TRIES })
+    }
+
+    /// The place of the joiner's Add.
+    pub fn place(&self) -> Pos
+        ensures { result ≡ self.now.place }
+    {
+        self.place
+    }
+
+    /// Whether a Give was taken.
+    pub fn has_give(&self) -> bool
+        ensures { result ≡ self.now.has_give }
+    {
+        self.has_give
     }
 
     /// The donor of the pending ask.

@@ -79,6 +79,13 @@ impl ListState {
         }
     }
 
+    /// The limits of the group.
+    pub fn limits(&self) -> Limits
+        ensures { result ≡ self.now.limits }
+    {
+        self.limits
+    }
+
     /// The place of the last entry taken; of its Add at a joiner that has taken none.
     pub fn taken(&self) -> Pos
         ensures { result ≡ self.now.taken }

@@ -145,12 +145,12 @@ fits_always at (Some x) r = go x.stage refl
 
 -- ---- what a stage says of the history
 
-record Acts (l : Life) (s : ℕ) : Type 0 where
-  active : is_active (phase l s) ≡ true
+pub record Acts (l : Life) (s : ℕ) : Type 0 where
+  pub active : is_active (phase l s) ≡ true
   alive : killed l s ≡ None
   stays_on : was_left l s ≡ false
 
-acts : (l : Life) (s : ℕ) → LeftActive l → stage_in l s ≡ Some Active → Acts l s
+pub acts : (l : Life) (s : ℕ) → LeftActive l → stage_in l s ≡ Some Active → Acts l s
 acts l s a e = go (killed l s) (was_left l s) (phase l s) refl refl refl
   where
     go : (k : Option Gtid) (w : Bool) (p : Phase) → killed l s ≡ k → was_left l s ≡ w → phase l s ≡ p → Acts l s

@@ -22,3 +22,4 @@ pub mod FallFrees
 pub mod Remaining
 pub mod Queued
 pub mod Certified
+pub mod Telling

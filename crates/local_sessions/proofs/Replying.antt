@@ -148,6 +148,20 @@ acting at x a s (Delete i) g t k = rw g (stated at x a s (Delete i) (record { it
 acting at x a s Commit g t k = rw g (committed at x a s t k)
 acting at x a s Rollback g t k = rw g refl
 
+acts : (xs : List Session) (at : Tables) (a : Member) (s : ℕ) (x : Session) → StandFor xs a.life → TablesOf at a → session_in xs s ≡ Some x → x.stage ≡ Active → is_active (phase a.life s) ≡ true → Acts at x a s
+acts xs at a s x f t e g p = let k = f s in record {
+  me = found_is xs s x e;
+  after = rw e at k.after;
+  state = rw e at k.state;
+  set = (rw e at k.set) g;
+  changes = (rw e at k.changes) (ap has_changes g);
+  reads = λ i. t.rows_seen s i p;
+}
+
+-- the transaction of the rules is that of the session
+pub txn_sent : (xs : List Session) (at : Tables) (a : Member) (s : ℕ) (x : Session) → StandFor xs a.life → TablesOf at a → session_in xs s ≡ Some x → x.stage ≡ Active → is_active (phase a.life s) ≡ true → txn_in s a ≡ txn_of at x
+txn_sent xs at a s x f t e g p = txn_is at x a s t (acts xs at a s x f t e g p)
+
 -- ---- every call
 
 opened : (s : ℕ) (r : Request) (a : Member) → call s r a ≡ unless_killed s r (killed a.life s) a
@@ -173,15 +187,5 @@ replied xs at a s r f l t = opened s r a ∙ go (killed a.life s) (was_left a.li
     go None false (IsAsking i) e1 e2 e3 = rw (e1, unless_killed, e2, e3) (stops (Asking i) (stays Busy) (rw (e1, e2, e3) refl) refl)
     go None false IsActive e1 e2 e3 =
         let x = somebody o Active ((f s).stage ∙ (rw (e1, e2, e3) refl)) in
-        let k = f s in
         rw (e1, unless_killed, e2, e3)
-        (acting at x.0 a s r x.1.1 t
-        (record {
-          me = found_is xs s x.0 x.1.0;
-          after = rw x.1.0 at k.after;
-          state = rw x.1.0 at k.state;
-          set = (rw x.1.0 at k.set) x.1.1;
-          changes = (rw x.1.0 at k.changes) (ap has_changes x.1.1);
-          reads = λ i. t.rows_seen s i (ap is_active e3);
-        })
-        ∙ ap (λ z. after_reply s r (reply_to at z r) a) (sym x.1.0))
+        (acting at x.0 a s r x.1.1 t (acts xs at a s x.0 f t x.1.0 x.1.1 (ap is_active e3)) ∙ ap (λ z. after_reply s r (reply_to at z r) a) (sym x.1.0))

@@ -6,3 +6,4 @@ pub mod Others
 pub mod Sizes
 pub mod Following
 pub mod Acting
+pub mod Telling

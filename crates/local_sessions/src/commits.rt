@@ -3,6 +3,7 @@ ghost use Rattle.std.specs.Prelude.{◌≡◌, IfOk, OnErr, OnOk, true};
 ghost use Rattle.gr_ids.specs.declared.memory.Memory.{Memory};
 ghost use Rattle.group_rules.specs.declared.answers.Answer.TheVariants.{Sent as SentAs};
 ghost use Rattle.local_sessions.specs.declared.commit_step.CommitStep.TheVariants.{Said as Says};
+ghost use Rattle.local_sessions.specs.Committing.{IsSpeltIn};
 ghost use Rattle.local_sessions.specs.Standing.{Asking as IsAsking, at_stage, changed_at, is_asked, session_in};
 ghost use Rattle.local_sessions.specs.Replies.{Does, commit as commit_reply, rollback as rollback_reply};
 
@@ -20,6 +21,7 @@ impl Sessions {
     /// logarithmic in the items; linear in the bytes of the body.
     pub fn commit(&mut self, at: &mut Tables, session: SessionId) -> Result<CommitStep, Memory>
         ensures answer { IfOk result (λ step. (commit_reply at.old (session_in self.old session)).answer ≡ step) }
+        ensures spelt { IfOk result (λ step. IsSpeltIn at.old (session_in self.old session) step) }
         ensures done { OnOk result (Does (commit_reply at.old (session_in self.old session)).deed session self.old self.new at.old at.new) }
         ensures err { OnErr result ((self.new ≡ self.old) × (at.new ≡ at.old)) }
     {

@@ -1,7 +1,7 @@
 // The body of a transaction whose commit is asked.
-ghost use Rattle.std.specs.Prelude.{◌≡◌, IfOk};
+ghost use Rattle.std.specs.Prelude.{◌≡◌, IfOk, OnOk};
 ghost use Rattle.gr_ids.specs.declared.memory.Memory.{Memory};
-ghost use Rattle.txn_forms.specs.Bodies.{IsTxn, body_bytes};
+ghost use Rattle.txn_forms.specs.Bodies.{IsHeldTxn, IsTxn, body_bytes};
 ghost use Rattle.txn_forms.specs.declared.body.Body.TheVariants.{Txn as Writes};
 ghost use Rattle.group_rules.specs.Calls.{items_of};
 ghost use Rattle.local_sessions.specs.Committing.{IsChecked};
@@ -69,7 +69,8 @@ pub(crate) fn body_of(
 ) -> Result<Blob, Memory>
     requires items { items ≡ items_of session.now.changes }
     requires txn { IsTxn (txn_of at.now session.now) }
-    ensures { IfOk result (λ body. body ≡ body_bytes (Writes (txn_of at.now session.now))) }
+    ensures bytes { IfOk result (λ body. body ≡ body_bytes (Writes (txn_of at.now session.now))) }
+    ensures held { OnOk result (IsHeldTxn (txn_of at.now session.now)) }
 {
     let txn = Txn {
         after: session.after,

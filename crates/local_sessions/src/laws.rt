@@ -1,5 +1,5 @@
 // The sessions of a member stand for its history.
-ghost use Rattle.std.specs.Prelude.{◌≡◌, ◌≤◌, ◌∷◌, ◌++◌, ℕ, [], List, None, Option, Some, map, true, false, ◌==◌, filter, not, reverse};
+ghost use Rattle.std.specs.Prelude.{◌≡◌, ◌≤◌, ◌∷◌, ◌++◌, ℕ, [], List, None, Option, Some, map, true, false, ◌==◌, filter, length, not, reverse};
 ghost use Rattle.group_rules.specs.declared.requests.Request.{Request};
 ghost use Rattle.gr_ids.specs.declared.levels.Level.{Level};
 ghost use Rattle.gr_ids.specs.declared.names.Gtid.{Gtid};
@@ -21,7 +21,11 @@ ghost use Rattle.group_rules.specs.declared.marks.Cause.{Cause as AnyCause};
 ghost use Rattle.gr_ids.specs.declared.levels.MemberState.TheVariants.{Error};
 ghost use Rattle.group_rules.specs.Sessions.{is_active, is_holding, phase, sessions};
 ghost use Rattle.group_rules.specs.Keys.{killed, place_holder, was_left};
-ghost use Rattle.group_rules.specs.Calls.{call};
+ghost use Rattle.group_rules.specs.Calls.{call, txn_of as txn_in};
+ghost use Rattle.group_rules.specs.declared.answers.Answer.TheVariants.{Held};
+ghost use Rattle.group_rules.specs.declared.requests.Request.TheVariants.{Begin, Commit};
+ghost use Rattle.txn_forms.specs.Bodies.{IsHeldTxn, IsTxn, body_bytes};
+ghost use Rattle.txn_forms.specs.declared.body.Body.TheVariants.{Txn as Writes};
 ghost use Rattle.row_locks.specs.Locking.{Locked, holders_of, other_session, session_at, taken_over, place_at, with_place, without_place};
 ghost use Rattle.local_sessions.specs.declared.tables.Tables.{Tables as AnyTables};
 ghost use Rattle.local_sessions.specs.declared.told.TakenOwn.{TakenOwn};
@@ -30,12 +34,31 @@ ghost use Rattle.local_sessions.specs.Standing.{Active, Asking, Session, ascend,
 ghost use Rattle.local_sessions.specs.Replies.{Asks, Does, Ends, Holds, Reply as AnyReply, Writing, keys_after, sessions_after};
 ghost use Rattle.local_sessions.specs.Others.{answer_of, answers_left, asking, killed_by, left, sessions_left, unless_killed, without_told};
 ghost use Rattle.local_sessions.specs.Following.{AsksOnce, LeftActive, LocksOf, StandFor, TablesOf, asks_as, does_place, is_free, touches, done_places, place_of, rise};
+ghost use Rattle.local_sessions.specs.Committing.{IsSpeltIn};
+ghost use Rattle.local_sessions.specs.Telling.{Fits, ends_by, is_begin, is_held_answer, is_last};
 ghost use Rattle.local_sessions.specs.Acting.{TakenOf, after_reply, reply_to, sent_as, tell, told_to};
 
 /// Where the sessions and the tables stand for a history, and what was left is active, the reply to each call is what the rules of the group give.
 pub fn replies_are_those_of_the_rules()
     ensures { (xs : List Session) (at : AnyTables) (a : AnyMember) (s : ℕ) (r : Request) → StandFor xs a.life → LeftActive a.life → TablesOf at a
         → call s r a ≡ after_reply s r (reply_to at (session_in xs s) r) a }
+{}
+
+/// The answer of a call tells what it did besides: nothing, or it ended the transaction, or a row was changed. A begin that is held is of a
+/// session that has no transaction. A body that is handed out is that of the rules' transaction, of at most 16,777,216 bytes; no begin of its session is held.
+pub fn answers_tell_what_is_done()
+    ensures called { (xs : List Session) (at : AnyTables) (s : ℕ) (r : Request) (w : AnyAnswer) → is_begin r ≡ false → (reply_to at (session_in xs s) r).answer ≡ Said w
+        → Fits (ends_by r w) w (reply_to at (session_in xs s) r).deed }
+    ensures begun { (xs : List Session) (at : AnyTables) (s : ℕ) (v : Level) (n : ℕ) (w : AnyAnswer) → is_held_answer w ≡ false
+        → (reply_to at (session_in xs s) (Begin v n)).answer ≡ Said w → Fits (is_last w) w (reply_to at (session_in xs s) (Begin v n)).deed }
+    ensures held { (xs : List Session) (at : AnyTables) (l : Life) (s : ℕ) (v : Level) (n : ℕ) → StandFor xs l
+        → (reply_to at (session_in xs s) (Begin v n)).answer ≡ Said Held
+        → (is_holding (phase l s) ≡ false) × ((reply_to at (session_in xs s) (Begin v n)).deed ≡ Holds (is_after v) at.state) }
+    ensures sized { (xs : List Session) (at : AnyTables) (s : ℕ) (b : List ℕ) → (reply_to at (session_in xs s) Commit).answer ≡ Ready b
+        → (1 ≤ length b) × (length b ≤ 16777216) }
+    ensures sent { (xs : List Session) (at : AnyTables) (a : AnyMember) (s : ℕ) (b : List ℕ) → StandFor xs a.life → LeftActive a.life → TablesOf at a
+        → (reply_to at (session_in xs s) Commit).answer ≡ Ready b → (b ≡ body_bytes (Writes (txn_in s a))) × ((is_holding (phase a.life s) ≡ false)
+        × (IsSpeltIn at (session_in xs s) (Ready b) → IsTxn (txn_in s a) × IsHeldTxn (txn_in s a))) }
 {}
 
 /// After a call, the sessions and the locks stand for the history that the rules of the group leave, and what was left is active; where the

@@ -13,7 +13,7 @@ use Rattle.std.proofs.lemmas.List.Elements.{filter-append}
 use Rattle.gr_ids.specs.declared.names.Gtid.{Gtid}
 use Rattle.gr_ids.specs.Names.{gtid_eq}
 use Rattle.gtid_sets.specs.Sets.{Gtids, has, with_gtid}
-use Rattle.gtid_sets.specs.Canonical.{IsCanonical, IsNumber, IsUuid}
+use Rattle.gtid_sets.specs.Canonical.{IsNumber, IsUuid}
 use Rattle.gtid_sets.proofs.LawLemmas.{all_with_gtid}
 use Rattle.gtid_sets.proofs.PutLemmas.{canonical_with_gtid}
 use Rattle.group_rules.specs.Events.{AskFails, AsksCommit, Answered, Begun, Called, Came, Cert, Changed, Committed, Did, Done, Ends, Enters, Entry, Founds, Gave, Is, Life, Made, Replied, Restores, Skips, Starts, Took}
@@ -22,7 +22,7 @@ use Rattle.group_rules.specs.declared.holds.Pending.{Pending}
 use Rattle.group_rules.specs.Life.{cert_of, certs, executed, cert_by}
 use Rattle.group_rules.specs.Queue.{all_below, pending}
 use Rattle.member_backlog.specs.Standing.{Waits, is_of_backlog, uncommitted_of}
-use Rattle.member_backlog.specs.Waiting.{Uncommitted, is_clear, pending_of, with_certified, without_committed}
+use Rattle.member_backlog.specs.Waiting.{Uncommitted, is_clear, pending_of, with_certified, without, without_committed}
 
 abbrev lacks : Gtids → Cert → Bool
 lacks e c = not (has e c.gtid)
@@ -63,30 +63,33 @@ same_left e (c ∷ cs) = go (has e c.gtid) refl (same_left e cs)
     go true f r = rw f r
     go false f r = rw f (ap (λ (us : List Uncommitted). uncommitted_of c ∷ us) r)
 
--- what a greater set lacks, a lesser one lacks
-twice : (d e : Gtids) (cs : List Cert) → ((g : Gtid) → has d g ≡ true → has e g ≡ true) → filter (lacks e) (filter (lacks d) cs) ≡ filter (lacks e) cs
-twice d e [] h = refl
-twice d e (c ∷ cs) h = go (has d c.gtid) refl (has e c.gtid) refl (twice d e cs h)
-  where
-    go : (a : Bool) → has d c.gtid ≡ a → (b : Bool) → has e c.gtid ≡ b → filter (lacks e) (filter (lacks d) cs) ≡ filter (lacks e) cs → filter (lacks e) (filter (lacks d) (c ∷ cs)) ≡ filter (lacks e) (c ∷ cs)
-    go true f true g r = rw (f, g) r
-    go true f false g r = let k : true ≡ false = sym (h c.gtid f) ∙ g in cc
-    go false f true g r = rw (f, g) r
-    go false f false g r = rw (f, g) (ap (λ (ds : List Cert). c ∷ ds) r)
+abbrev pub is_not : Gtid → Cert → Bool
+is_not g c = not (gtid_eq g c.gtid)
 
-grows : (s : Gtids) (g m : Gtid) → IsCanonical s → IsUuid g.source → IsNumber g.number → has s m ≡ true → has (with_gtid s g) m ≡ true
-grows s g m k u n h = all_with_gtid s g m k u n ∙ go (gtid_eq g m)
+-- a set with one GTID more lacks what the set lacks, but for the one that has it
+pub lacks_left : (s t : Gtids) (g : Gtid) → ((m : Gtid) → has t m ≡ (gtid_eq g m || has s m)) → (cs : List Cert) → filter (lacks t) cs ≡ filter (is_not g) (filter (lacks s) cs)
+lacks_left s t g h [] = refl
+lacks_left s t g h (c ∷ cs) = go (gtid_eq g c.gtid) refl (has s c.gtid) refl (lacks_left s t g h cs)
   where
-    go : (b : Bool) → (b || has s m) ≡ true
-    go true = refl
-    go false = h
+    go : (a : Bool) → gtid_eq g c.gtid ≡ a → (b : Bool) → has s c.gtid ≡ b → filter (lacks t) cs ≡ filter (is_not g) (filter (lacks s) cs) → filter (lacks t) (c ∷ cs) ≡ filter (is_not g) (filter (lacks s) (c ∷ cs))
+    go true ea true eb r = let k : has t c.gtid ≡ true = h c.gtid ∙ rw ea refl in rw (k, eb) r
+    go true ea false eb r = let k : has t c.gtid ≡ true = h c.gtid ∙ rw ea refl in rw (k, eb, ea) r
+    go false ea true eb r = let k : has t c.gtid ≡ true = h c.gtid ∙ rw (ea, eb) refl in rw (k, eb) r
+    go false ea false eb r = let k : has t c.gtid ≡ false = h c.gtid ∙ rw (ea, eb) refl in rw (k, eb, ea) (ap (λ (ds : List Cert). c ∷ ds) r)
 
-pub commits : (l : Life) (g : Gtid) (us : List Uncommitted) → Waits l us → IsUuid g.source → IsNumber g.number → Waits (Committed g ∷ l) (without_committed (with_gtid (executed l) g) us)
+one_less : (g : Gtid) (cs : List Cert) → without g (map uncommitted_of cs) ≡ map uncommitted_of (filter (is_not g) cs)
+one_less g [] = refl
+one_less g (c ∷ cs) = go (gtid_eq g c.gtid) refl (one_less g cs)
+  where
+    go : (b : Bool) → gtid_eq g c.gtid ≡ b → without g (map uncommitted_of cs) ≡ map uncommitted_of (filter (is_not g) cs) → without g (map uncommitted_of (c ∷ cs)) ≡ map uncommitted_of (filter (is_not g) (c ∷ cs))
+    go true e r = rw e r
+    go false e r = rw e (ap (λ (us : List Uncommitted). uncommitted_of c ∷ us) r)
+
+pub commits : (l : Life) (g : Gtid) (us : List Uncommitted) → Waits l us → IsUuid g.source → IsNumber g.number → Waits (Committed g ∷ l) (without g us)
 commits l g us w u n =
     let s = executed l in
-    let t = with_gtid s g in
     record {
-      waiting = ap (without_committed t) w.waiting ∙ (same_left t (pending l) ∙ ap (map uncommitted_of) (twice s t (reverse (certs l)) (λ m h. grows s g m w.set u n h)));
+      waiting = ap (without g) w.waiting ∙ (one_less g (pending l) ∙ ap (map uncommitted_of) (sym (lacks_left s (with_gtid s g) g (λ m. all_with_gtid s g m w.set u n) (reverse (certs l)))));
       set = canonical_with_gtid s g u n w.set;
     }
 

@@ -1,10 +1,11 @@
 // The backlog.
-ghost use Rattle.std.specs.Prelude.{◌≡◌, [], IfOk, OnErr, OnOk};
+ghost use Rattle.std.specs.Prelude.{◌≡◌, ◌||◌, [], IfOk, OnErr, OnOk};
+ghost use Rattle.gr_ids.specs.Names.{inc_eq};
 ghost use Rattle.gr_ids.specs.declared.memory.Memory.{Memory};
-ghost use Rattle.member_backlog.specs.Waiting.{is_clear, pending_of, with_certified, without_committed};
+ghost use Rattle.member_backlog.specs.Waiting.{after_below, is_below, is_clear, pending_of, with_certified, without, without_committed};
 
 use crate::uncommitted::Uncommitted;
-use gr_ids::{Memory, Pos, Sequence};
+use gr_ids::{Gtid, Inc, Memory, Pos, Sequence};
 use group_rules::Pending;
 use gtid_sets::GtidSet;
 use std::alloc::Global;
@@ -61,11 +62,11 @@ impl Backlog {
         Ok(())
     }
 
-    /// Those that are committed now wait no more. Linear in those that wait; takes no memory.
-    pub fn settle(&mut self, executed: &GtidSet)
-        ensures { self.new ≡ without_committed executed.now self.old }
+    /// The transaction with this GTID is committed, and waits no more. Linear in those that wait; takes no memory.
+    pub fn commit(&mut self, gtid: Gtid)
+        ensures { self.new ≡ without gtid self.old }
     {
-        keep_uncommitted(&mut self.waiting, executed);
+        keep_others(&mut self.waiting, gtid);
     }
 
     /// Those that wait, by ascending place.
@@ -80,6 +81,19 @@ impl Backlog {
         ensures { IfOk result (λ pending. pending ≡ pending_of self.now) }
     {
         Ok(Sequence::from_vec(pending_from(alloc, &self.waiting)?))
+    }
+
+    /// The GTIDs of the AFTER transactions that wait, and are this member's own or stand below the place, if there is one. Linear in
+    /// those that wait.
+    pub fn after_below(
+        &self,
+        alloc: Global,
+        me: Inc,
+        below: Option<Pos>,
+    ) -> Result<Sequence<Gtid>, Memory>
+        ensures { IfOk result (λ gtids. gtids ≡ after_below me below self.now) }
+    {
+        Ok(Sequence::from_vec(gtids_below(alloc, me, below, &self.waiting)?))
     }
 
     /// Whether all that is certified below the place is committed. Linear in those that wait.
@@ -106,10 +120,10 @@ fn uncommitted_from(
     )
 }
 
-fn keep_uncommitted(waiting: &mut Vec<Uncommitted>, executed: &GtidSet)
-    ensures { waiting.new.items ≡ without_committed executed.now waiting.old.items }
+fn keep_others(waiting: &mut Vec<Uncommitted>, gtid: Gtid)
+    ensures { waiting.new.items ≡ without gtid waiting.old.items }
 {
-    waiting.retain(|one| !executed.contains(one.gtid));
+    waiting.retain(|one| gtid != one.gtid);
 }
 
 fn pending_from(alloc: Global, waiting: &[Uncommitted]) -> Result<Vec<Pending>, Memory>
@@ -124,4 +138,36 @@ fn pending_from(alloc: Global, waiting: &[Uncommitted]) -> Result<Vec<Pending>, 
             })
             .collect(alloc)?,
     )
+}
+
+fn gtids_below(
+    alloc: Global,
+    me: Inc,
+    below: Option<Pos>,
+    waiting: &[Uncommitted],
+) -> Result<Vec<Gtid>, Memory>
+    ensures { IfOk result (λ v. v.items ≡ after_below me below waiting.now) }
+{
+    Ok(
+        waiting
+            .iter()
+            .filter(|one| one.after && is_own_or_below(one, me, below))
+            .map(|one| one.gtid)
+            .collect(alloc)?,
+    )
+}
+
+fn is_own_or_below(one: &Uncommitted, me: Inc, below: Option<Pos>) -> bool
+    ensures { result ≡ (inc_eq one.now.id.origin me || is_below below one.now.place) }
+{
+    one.id.origin == me || is_below(one.place, below)
+}
+
+fn is_below(place: Pos, below: Option<Pos>) -> bool
+    ensures { result ≡ is_below below place }
+{
+    match below {
+        Some(below) => place < below,
+        None => true,
+    }
 }

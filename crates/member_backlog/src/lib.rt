@@ -4,14 +4,13 @@
 ghost use Rattle.std.specs.Prelude.{◌≡◌, ◌∷◌, ℕ, [], List, false, map};
 ghost use Rattle.gr_ids.specs.declared.names.Gtid.{Gtid as AnyGtid};
 ghost use Rattle.gtid_sets.specs.Canonical.{IsNumber, IsUuid};
-ghost use Rattle.gtid_sets.specs.Sets.{with_gtid};
 ghost use Rattle.paxos_forms.specs.declared.recovery.Give.{Give as AnyGive};
 ghost use Rattle.group_rules.specs.Events.{Cert, Committed, Did, Entry, Founds, Life, Restores, Took};
 ghost use Rattle.group_rules.specs.Holds.{standing};
 ghost use Rattle.group_rules.specs.Life.{cert_of, certs, executed};
 ghost use Rattle.group_rules.specs.Queue.{all_below};
 ghost use Rattle.member_backlog.specs.Standing.{Waits, is_of_backlog, uncommitted_of};
-ghost use Rattle.member_backlog.specs.Waiting.{Uncommitted as AnyUncommitted, is_clear, pending_of, with_certified, without_committed};
+ghost use Rattle.member_backlog.specs.Waiting.{Uncommitted as AnyUncommitted, is_clear, pending_of, with_certified, without, without_committed};
 
 mod backlog;
 #[cfg(test)]
@@ -30,7 +29,7 @@ pub fn backlogs_are_those_of_the_rules()
         → Waits (Took e ∷ l) (with_certified (executed l) us (uncommitted_of c)) }
     ensures taken { (l : Life) (e : Entry) (us : List AnyUncommitted) → Waits l us → cert_of e ≡ [] → Waits (Took e ∷ l) us }
     ensures committed { (l : Life) (g : AnyGtid) (us : List AnyUncommitted) → Waits l us → IsUuid g.source → IsNumber g.number
-        → Waits (Committed g ∷ l) (without_committed (with_gtid (executed l) g) us) }
+        → Waits (Committed g ∷ l) (without g us) }
     ensures restored { (l : Life) (g : AnyGive) (cs : List Cert) (us : List AnyUncommitted) → Waits l us
         → Waits (Restores g cs ∷ l) (without_committed (executed l) (map uncommitted_of cs)) }
     ensures passed { (l : Life) (d : Did) (us : List AnyUncommitted) → is_of_backlog d ≡ false → Waits l us → Waits (d ∷ l) us }

@@ -34,7 +34,7 @@ fn what_is_committed_waits_no_more(rt: HostRuntime) -> Result<(), Fail> {
     for place in 1..4 {
         backlog.certify(&none, certified(place))?;
     }
-    backlog.settle(&second);
+    backlog.commit(certified(2).gtid);
     backlog.certify(&second, certified(2))?;
     let places: Vec<Pos> = backlog
         .waiting()

@@ -1,3 +1,4 @@
 pub mod Arranged
 pub mod Cuts
 pub mod Seats
+pub mod Fits

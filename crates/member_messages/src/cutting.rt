@@ -1,6 +1,8 @@
 // Bodies that are too large to be sent whole.
-ghost use Rattle.std.specs.Prelude.{◌≡◌, ◌≤◌, IfOk, length};
+ghost use Rattle.std.specs.Prelude.{◌≡◌, ◌<◌, ◌≤◌, IfOk, length};
+ghost use Rattle.std.specs.List.{AllByRecursion};
 ghost use Rattle.gr_ids.specs.declared.memory.Memory.{Memory};
+ghost use Rattle.txn_forms.specs.Bodies.{IsPart};
 ghost use Rattle.group_rules.specs.Parts.{cut};
 
 use gr_ids::{Blob, Memory};
@@ -14,7 +16,8 @@ const PART_SIZE: usize = 65_523;
 /// last one. Linear in the bytes.
 pub fn cut_body(alloc: Global, body: &[u8]) -> Result<Vec<Part>, Memory>
     requires { length body.now ≤ 16777216 }
-    ensures { IfOk result (λ v. v.items ≡ cut body.now) }
+    ensures cut { IfOk result (λ v. v.items ≡ cut body.now) }
+    ensures fit { 65536 < length body.now → IfOk result (λ v. AllByRecursion IsPart v.items) }
 {
     let count = body.len().div_ceil(PART_SIZE);
     let mut parts = Vec::new(alloc);

@@ -2,6 +2,8 @@ pub mod Doing
 pub mod Aside
 pub mod Ended
 pub mod Begun
+pub mod Called
+pub mod Answered
 pub mod Pushed
 pub mod Told
 pub mod Replies

@@ -1,16 +1,18 @@
 -- The parts stand for the history with a result, a commit, an own value, and a fall.
-use Rattle.std.proofs.Common.{◌≡◌, ◌≤◌, ◌<◌, inl, inr, ℕ, suc, Bool, true, false, ◌&&◌, ◌||◌, not, Option, Some, None, List, [], ◌∷◌, map, refl, sym, ap, ◌∙◌, subst, arith, eqb-true, true≢false}
-use Rattle.std.specs.Prelude.{filter, reverse, Result, Ok, Err, OnOk, IfOk, IfErr, IfNone, IfSome, MatchOption, ◌==◌}
+use Rattle.std.proofs.Common.{◌≡◌, ◌≤◌, ◌<◌, inl, inr, ℕ, suc, Bool, true, false, ◌&&◌, not, Option, Some, None, List, [], ◌∷◌, map, refl, sym, ap, ◌∙◌, subst, arith, eqb-true, true≢false}
+use Rattle.std.specs.Prelude.{filter, reverse, Result, Ok, Err, OnOk, IfOk, IfErr, IfNone, IfSome, MatchOption, OnErr, ◌==◌}
 use Rattle.std.specs.List.{find, list_all}
+use Rattle.std.specs.Option.{option_map}
 use Rattle.std.proofs.lemmas.Bool.{and_parts}
 use Rattle.gr_ids.specs.declared.names.Gtid.{Gtid}
 use Rattle.gr_ids.specs.declared.names.Inc.{Inc}
 use Rattle.gr_ids.specs.declared.levels.MemberState.TheVariants.{Error}
 use Rattle.gr_ids.specs.Names.{gtid_eq}
 use Rattle.gtid_sets.specs.Canonical.{IsCanonical, IsNumber, IsUuid}
-use Rattle.gtid_sets.specs.Sets.{Gtids, has, with_gtid}
+use Rattle.gtid_sets.specs.Sets.{Gtids, with_gtid}
 use Rattle.gtid_sets.proofs.LawLemmas.{all_with_gtid}
 use Rattle.key_items.specs.declared.change.Change.{Change}
+use Rattle.key_items.specs.declared.item.Item.{Item}
 use Rattle.slot_values.specs.declared.value.Value.{Value}
 use Rattle.txn_forms.specs.declared.body.Body.{Body}
 use Rattle.txn_forms.specs.declared.body.Body.TheVariants as body
@@ -28,49 +30,36 @@ use Rattle.gr_ids.specs.declared.memory.Memory.{Memory}
 use Rattle.apply_queue.specs.declared.work.Work.{Work}
 use Rattle.apply_queue.specs.declared.work.WorkDone.{WorkDone}
 use Rattle.apply_queue.specs.Following.{IsRising, QueuedOf, as_queued, is_other, with_result, without, work_of}
-use Rattle.apply_queue.specs.Queues.{Queued, handed_out, next_commit, refusal, with_done, is_done as is_done_now}
-use Rattle.apply_queue.specs.Works.{changes_of}
+use Rattle.apply_queue.specs.Queues.{Queued, at_place as queued_at, handed_out, next_commit, refusal, with_done, is_done as is_done_now}
+use Rattle.apply_queue.specs.Works.{changes_of, items_of}
 use Rattle.apply_queue.proofs.Commits.{absent, apart, behind, first_out}
 use Rattle.apply_queue.proofs.Dones.{does}
 use Rattle.apply_queue.proofs.Fronts.{first_is, rises}
 use Rattle.apply_queue.proofs.Lists.{in_filter, in_reverse}
 use Rattle.apply_queue.proofs.Lives.{commits as queue_commits, failed, hands, is_others, lacks, passes as queue_passes, queue_is}
-use Rattle.apply_queue.proofs.Results.{found, result_is}
+use Rattle.apply_queue.proofs.Results.{found, gtid_is, result_is}
 use Rattle.consistency_waits.proofs.Histories.{passes as holds_pass}
 use Rattle.donor_recovery.proofs.Donors.{passes as donor_passes}
 use Rattle.failure_events.proofs.Histories.{passes as watch_passes}
 use Rattle.list_state.proofs.Followed.{passed as list_passes}
 use Rattle.member_backlog.specs.declared.uncommitted.Uncommitted.{Uncommitted}
 use Rattle.member_backlog.specs.Standing.{Waits}
-use Rattle.member_backlog.specs.Waiting.{without_committed}
-use Rattle.member_backlog.proofs.Backlogs.{commits as backlog_commits, passes as backlog_passes}
+use Rattle.member_backlog.specs.Waiting.{without as less_one}
+use Rattle.member_backlog.proofs.Backlogs.{commits as backlog_commits, is_not, lacks_left, passes as backlog_passes}
 use Rattle.prepare_acks.specs.Following.{IsGtid, SentOf, with_sent}
 use Rattle.prepare_acks.proofs.Awaiting.{passes_awaited}
 use Rattle.prepare_acks.proofs.Entries.{gtid_other, gtid_same}
 use Rattle.prepare_acks.proofs.Requiring.{passes_requiring}
 use Rattle.prepare_acks.proofs.Sending.{makes, passes_sent}
 use Rattle.member_parts.specs.declared.parts.MemberParts.{MemberParts}
-use Rattle.member_parts.specs.Committing.{HasNumber, IsWritten, MayGo, prepared_in}
+use Rattle.member_parts.specs.Committing.{HasNumber, IsAccepted, IsWritten, MayGo, prepared_in}
 use Rattle.member_parts.specs.Remote.{OwnWork, Remote, free_from, no_remote, own_work, without_own}
 use Rattle.member_parts.specs.Standing.{OwnOf, StandsFor}
 use Rattle.member_parts.proofs.Lists.{rising_left}
 use Rattle.member_parts.proofs.Orderly.{does_orderly, makes_orderly, passes_orderly}
 use Rattle.member_parts.proofs.Owns.{is_of}
 
-abbrev is_not : Gtid → Cert → Bool
-is_not g c = not (gtid_eq g c.gtid)
-
 -- ---- what is pending after a commit
-
-lacks_left : (s t : Gtids) (g : Gtid) → ((m : Gtid) → has t m ≡ (gtid_eq g m || has s m)) → (cs : List Cert) → filter (lacks t) cs ≡ filter (is_not g) (filter (lacks s) cs)
-lacks_left s t g h [] = refl
-lacks_left s t g h (c ∷ cs) = go (gtid_eq g c.gtid) refl (has s c.gtid) refl (lacks_left s t g h cs)
-  where
-    go : (a : Bool) → gtid_eq g c.gtid ≡ a → (b : Bool) → has s c.gtid ≡ b → filter (lacks t) cs ≡ filter (is_not g) (filter (lacks s) cs) → filter (lacks t) (c ∷ cs) ≡ filter (is_not g) (filter (lacks s) (c ∷ cs))
-    go true ea true eb r = let k : has t c.gtid ≡ true = h c.gtid ∙ rw ea refl in rw (k, eb) r
-    go true ea false eb r = let k : has t c.gtid ≡ true = h c.gtid ∙ rw ea refl in rw (k, eb, ea) r
-    go false ea true eb r = let k : has t c.gtid ≡ true = h c.gtid ∙ rw (ea, eb) refl in rw (k, eb) r
-    go false ea false eb r = let k : has t c.gtid ≡ false = h c.gtid ∙ rw (ea, eb) refl in rw (k, eb, ea) (ap (λ (ds : List Cert). c ∷ ds) r)
 
 keeps_it : (p : Cert → Bool) (c : Cert) (cs : List Cert) → p c ≡ true → filter p (c ∷ cs) ≡ c ∷ filter p cs
 keeps_it p c cs e = rw e refl
@@ -192,16 +181,16 @@ other_may s me l c o h = go (is_done l c.place) refl (ap (λ (b : Bool). elim b 
 abbrev Leaves : MemberParts → List Uncommitted → Remote → List OwnWork → MemberParts
 Leaves x us r ws = record x { backlog = us; remotes = r; own = ws }
 
-commits_rest : (s : Setup) (me : Inc) (l : Life) (c : Cert) (z : Gtids) (x : MemberParts) (us : List Uncommitted) (r : Remote) (ws : List OwnWork) → StandsFor s me l x → In c (pending l) → z ≡ with_gtid (executed l) c.gtid
-    → us ≡ without_committed z x.backlog → QueuedOf me (Committed c.gtid ∷ l) r.queue → free_from r.last ≡ free_from x.remotes.last → OwnOf me (Committed c.gtid ∷ l) ws → StandsFor s me (Committed c.gtid ∷ l) (Leaves x us r ws)
-commits_rest s me l c z x us r ws f m ez eb q k o =
+commits_rest : (s : Setup) (me : Inc) (l : Life) (c : Cert) (x : MemberParts) (us : List Uncommitted) (r : Remote) (ws : List OwnWork) → StandsFor s me l x → In c (pending l) → us ≡ less_one c.gtid x.backlog
+    → QueuedOf me (Committed c.gtid ∷ l) r.queue → free_from r.last ≡ free_from x.remotes.last → OwnOf me (Committed c.gtid ∷ l) ws → StandsFor s me (Committed c.gtid ∷ l) (Leaves x us r ws)
+commits_rest s me l c x us r ws f m eb q k o =
     let g = c.gtid in
     let n = gtid_of s me l x c f m in
     record {
       list = list_passes s l x.list (Committed g) refl f.list;
       watch = watch_passes s me l (Committed g) x.watch refl f.watch;
       donor = donor_passes s l x.donor (Committed g) refl f.donor;
-      backlog = subst (λ (vs : List Uncommitted). Waits (Committed g ∷ l) vs) (sym (eb ∙ ap (λ (e : Gtids). without_committed e x.backlog) ez)) (backlog_commits l g x.backlog f.backlog n.0 n.1);
+      backlog = subst (λ (vs : List Uncommitted). Waits (Committed g ∷ l) vs) (sym eb) (backlog_commits l g x.backlog f.backlog n.0 n.1);
       queue = q;
       free = omega (arith, k, f.free);
       own = o;
@@ -240,9 +229,13 @@ own_stays s me l c u x h o f w =
         let k = in_filter (is_own me) d (pending l) m in
         absurd (true≢false (sym k.1 ∙ (ap (is_own me) (sym (only_pending s me l x c f h.waits d k.0 e)) ∙ o)))
 
-pub commits_own : (s : Setup) (me : Inc) (l : Life) (c : Cert) (u : Uncommitted) (z : Gtids) (x : MemberParts) (us : List Uncommitted) (ws : List OwnWork) → z ≡ with_gtid (executed l) c.gtid → MayGo s me l c u → is_own me c ≡ true → us ≡ without_committed z x.backlog
+-- it is the one that waits
+this_one : (l : Life) (c : Cert) (u : Uncommitted) (x : MemberParts) (us : List Uncommitted) → u.gtid ≡ c.gtid → us ≡ less_one u.gtid x.backlog → us ≡ less_one c.gtid x.backlog
+this_one l c u x us e eb = eb ∙ ap (λ (g : Gtid). less_one g x.backlog) e
+
+pub commits_own : (s : Setup) (me : Inc) (l : Life) (c : Cert) (u : Uncommitted) (x : MemberParts) (us : List Uncommitted) (ws : List OwnWork) → MayGo s me l c u → is_own me c ≡ true → us ≡ less_one u.gtid x.backlog
     → ws ≡ without_own c.gtid x.own → StandsFor s me l x → StandsFor s me (Committed c.gtid ∷ l) (record x { backlog = us; own = ws })
-commits_own s me l c u z x us ws ez h o eb ew f = commits_rest s me l c z x us x.remotes ws f h.waits ez eb (queue_stays s me l c u x h o f) refl (own_goes s me l c u x ws h ew f)
+commits_own s me l c u x us ws h o eb ew f = commits_rest s me l c x us x.remotes ws f h.waits (this_one l c u x us (ap (λ (y : Uncommitted). y.gtid) h.is_it) eb) (queue_stays s me l c u x h o f) refl (own_goes s me l c u x ws h ew f)
 
 -- the first of the queue is the transaction, and done
 pub record IsFirst (me : Inc) (l : Life) (c : Cert) (qs : List Queued) : Type 0 where
@@ -290,16 +283,16 @@ out_written s me l c u x y (Some d) h w i f =
     let same = first_queued i.some.0 b.front y.queue b.rest (sym i.some.1 ∙ b.is) in
     let body_is : d.body ≡ body_bytes (body.Txn c.txn) = sym i.some.3 ∙ (ap (λ (q : Queued). q.body) same.0 ∙ ap (λ (q : Queued). q.body) b.work) in
     let read : read_body d.body ≡ Some (body.Txn c.txn) = ap read_body body_is ∙ f.orderly.read c (in_certs l c h.waits) in
-    let both : Some d.changes ≡ Some c.txn.changes = sym d.decoded ∙ ap changes_of read in
+    let both : Some d.changes ≡ Some c.txn.changes = sym d.decoded.0 ∙ ap changes_of read in
     (body_is, cc)
 
-pub out_stands : (s : Setup) (me : Inc) (l : Life) (c : Cert) (u : Uncommitted) (z : Gtids) (x : MemberParts) (us : List Uncommitted) (y : Remote) (o : Option WorkDone) → z ≡ with_gtid (executed l) c.gtid → MayGo s me l c u → is_own me c ≡ false → us ≡ without_committed z x.backlog
+pub out_stands : (s : Setup) (me : Inc) (l : Life) (c : Cert) (u : Uncommitted) (x : MemberParts) (us : List Uncommitted) (y : Remote) (o : Option WorkDone) → MayGo s me l c u → is_own me c ≡ false → us ≡ less_one u.gtid x.backlog
     → IsOut x.remotes y o → StandsFor s me l x → StandsFor s me (Committed c.gtid ∷ l) (record x { backlog = us; remotes = y })
-out_stands s me l c u z x us y None ez h w eb i f = absurd (front_goes me l c x.remotes.queue (first_of s me l c u x h w f) i.none.0)
-out_stands s me l c u z x us y (Some d) ez h w eb i f =
+out_stands s me l c u x us y None h w eb i f = absurd (front_goes me l c x.remotes.queue (first_of s me l c u x h w f) i.none.0)
+out_stands s me l c u x us y (Some d) h w eb i f =
     let b = first_of s me l c u x h w f in
     let same = first_queued i.some.0 b.front y.queue b.rest (sym i.some.1 ∙ b.is) in
-    commits_rest s me l c z x us y x.own f h.waits ez eb (subst (QueuedOf me (Committed c.gtid ∷ l)) (sym same.1) b.left) (ap free_from i.last) (own_stays s me l c u x h w f)
+    commits_rest s me l c x us y x.own f h.waits (this_one l c u x us (ap (λ (v : Uncommitted). v.gtid) h.is_it) eb) (subst (QueuedOf me (Committed c.gtid ∷ l)) (sym same.1) b.left) (ap free_from i.last) (own_stays s me l c u x h w f)
 
 pub own_written : (s : Setup) (me : Inc) (l : Life) (c : Cert) (u : Uncommitted) (g : Gtid) (x : MemberParts) (o : Option WorkDone) → MayGo s me l c u → is_own me c ≡ true → g ≡ c.gtid
     → MatchOption o (find (λ (w : OwnWork). gtid_eq w.gtid g) x.own ≡ None) (λ d. (k : Gtid) × (find (λ (w : OwnWork). gtid_eq w.gtid g) x.own ≡ Some (record { place = d.place; gtid = k; body = d.body; changes = d.changes }))) → StandsFor s me l x → IsWritten c o
@@ -334,9 +327,9 @@ in_error_none l me c m = go (is_error (state l)) m
     go true n = absurd n
     go false n = (in_filter (λ (d : Cert). not (is_own me d)) c (pending l) n).0
 
-pub stands_done : (s : Setup) (me : Inc) (l : Life) (p : ℕ) (b : List ℕ) (cs : List Change) (x y : MemberParts) → (refusal x.remotes.queue p b ≡ None) × (y.remotes ≡ record x.remotes { queue = with_done x.remotes.queue p cs }) → StandsFor s me l x
+pub stands_done : (s : Setup) (me : Inc) (l : Life) (p : ℕ) (b : List ℕ) (cs : List Change) (ws : List Item) (x y : MemberParts) → (refusal x.remotes.queue p b ≡ None) × (y.remotes ≡ record x.remotes { queue = with_done x.remotes.queue p cs ws }) → StandsFor s me l x
     → StandsFor s me (Done p ∷ l) (record x { remotes = y.remotes })
-stands_done s me l p b cs x y h f =
+stands_done s me l p b cs ws x y h f =
     let k = found me l x.remotes.queue p b f.queue h.0 in
     let i = find_in (λ (c : Cert). c.place == p) (queue l me) k.0 k.1 in
     let low : k.0.place ≤ taken l = f.acks.placed k.0 (in_certs l k.0 (in_error_none l me k.0 i.0)) in
@@ -346,7 +339,7 @@ stands_done s me l p b cs x y h f =
       watch = watch_passes s me l (Done p) x.watch refl f.watch;
       donor = donor_passes s l x.donor (Done p) refl f.donor;
       backlog = backlog_passes l (Done p) x.backlog refl f.backlog;
-      queue = subst (λ (r : Remote). QueuedOf me (Done p ∷ l) r.queue) (sym h.1) (does me l p cs x.remotes.queue f.queue (rises me l (pending_rises s me l x f)));
+      queue = subst (λ (r : Remote). QueuedOf me (Done p ∷ l) r.queue) (sym h.1) (does me l p cs ws x.remotes.queue f.queue (rises me l (pending_rises s me l x f)));
       free = subst (λ (r : Remote). free_from r.last ≤ suc (taken l)) (sym h.1) f.free;
       own = f.own;
       acks = passes_awaited s l (Done p) x.acks refl f.acks;
@@ -358,6 +351,17 @@ stands_done s me l p b cs x y h f =
 
 pub result_as : (a : Member) (p : ℕ) (b : List ℕ) (o : Option QueueFault) (x : MemberParts) → refusal x.remotes.queue p b ≡ o → StandsFor a.setup a.me.inc a.life x → work p (Some b) a ≡ with_result p o a
 result_as a p b o x e f = result_is a x.remotes.queue p b f.queue ∙ ap (λ (r : Option QueueFault). with_result p r a) e
+
+pub accepted : (s : Setup) (me : Inc) (l : Life) (x : MemberParts) (d : WorkDone) (g : Gtid) → refusal x.remotes.queue d.place d.body ≡ None → option_map (λ (q : Queued). q.gtid) (queued_at x.remotes.queue d.place) ≡ Some g → StandsFor s me l x
+    → IsAccepted me l d g
+accepted s me l x d g n e f =
+    let k = found me l x.remotes.queue d.place d.body f.queue n in
+    let c : Cert = k.0 in
+    let i = find_in (λ (y : Cert). y.place == d.place) (queue l me) c k.1 in
+    let read : read_body d.body ≡ Some (body.Txn c.txn) = ap read_body (sym k.2) ∙ f.orderly.read c (in_certs l c (in_error_none l me c i.0)) in
+    let items : Some d.items ≡ Some c.txn.items = sym d.decoded.1 ∙ ap items_of read in
+    let gtids : Some g ≡ Some c.gtid = sym e ∙ (gtid_is me l x.remotes.queue d.place f.queue ∙ ap (option_map (λ (y : Cert). y.gtid)) k.1) in
+    record { cert = c; queued = k.1; undone = k.3; gtid = cc; items = cc }
 
 -- ---- an own value, and a fall
 
@@ -403,6 +407,19 @@ done_out (Err e) P Q f h = tt
 pub refused_out : (r : Result (Unit {0}) QueueFault) (P Q : QueueFault → Type 0) → ((e : QueueFault) → P e → Q e) → IfErr r P → IfErr r Q
 refused_out (Ok u) P Q f h = tt
 refused_out (Err e) P Q f h = f e h
+
+pub sure_out : (r : Result (Unit {0}) QueueFault) (o : Option QueueFault) → IfErr r (λ e. o ≡ Some e) → OnErr r (o ≡ None → ⊥)
+sure_out (Ok u) o h = tt
+sure_out (Err e) o h = λ n. (let z : Some e ≡ None = sym h ∙ n in cc)
+
+pub refused_as : (r : Result Gtid QueueFault) (P Q : QueueFault → Type 0) → ((e : QueueFault) → P e → Q e) → IfErr r P → IfErr r Q
+refused_as (Ok g) P Q f h = tt
+refused_as (Err e) P Q f h = f e h
+
+pub accepted_out : (r : Result Gtid QueueFault) (x : MemberParts) (d : WorkDone) → OnOk r (refusal x.remotes.queue d.place d.body ≡ None) → IfOk r (λ g. option_map (λ q. q.gtid) (queued_at x.remotes.queue d.place) ≡ Some g)
+    → IfOk r (λ g. (a : Member) → StandsFor a.setup a.me.inc a.life x → IsAccepted a.me.inc a.life d g)
+accepted_out (Ok g) x d n e = λ a f. accepted a.setup a.me.inc a.life x d g n e f
+accepted_out (Err e) x d n h = tt
 
 stands_handed : (s : Setup) (me : Inc) (l : Life) (x : MemberParts) (y : Remote) → y ≡ record x.remotes { queue = handed_out x.remotes.queue } → StandsFor s me l x → StandsFor s me l (record x { remotes = y })
 stands_handed s me l x y e f = record {

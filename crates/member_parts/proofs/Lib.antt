@@ -10,4 +10,6 @@ pub mod Passed
 pub mod Committed
 pub mod Holds
 pub mod Told
+pub mod Conditions
+pub mod Turns
 pub mod Asked

@@ -11,6 +11,7 @@ use Rattle.apply_queue.specs.declared.fault.QueueFault.{QueueFault}
 use Rattle.apply_queue.specs.declared.work.Work.{Work}
 use Rattle.apply_queue.specs.declared.work.WorkDone.{WorkDone}
 use Rattle.key_items.specs.declared.change.Change.{Change}
+use Rattle.key_items.specs.declared.item.Item.{Item}
 
 pub more_above : (qs : List Queued) (p q : ℕ) → p ≤ q → is_above qs p ≡ true → is_above qs q ≡ true
 more_above [] p q h a = refl
@@ -36,17 +37,17 @@ same_above p f (x ∷ xs) n h = go (p x) refl (same_above p f xs n h)
 pub handed_above : (qs : List Queued) (n : ℕ) → is_above (handed_out qs) n ≡ is_above qs n
 handed_above qs n = same_above is_waiting _ qs n (λ q. refl)
 
-pub done_above : (qs : List Queued) (p n : ℕ) (cs : List Change) → is_above (with_done qs p cs) n ≡ is_above qs n
-done_above qs p n cs = same_above (is_at p) _ qs n (λ q. refl)
+pub done_above : (qs : List Queued) (p n : ℕ) (cs : List Change) (ws : List Item) → is_above (with_done qs p cs ws) n ≡ is_above qs n
+done_above qs p n cs ws = same_above (is_at p) _ qs n (λ q. refl)
 
 pub rest_above : (x : Queued) (xs : List Queued) (n : ℕ) → is_above (x ∷ xs) n ≡ true → is_above xs n ≡ true
 rest_above x xs n a = (and_parts (nat_lt x.place n) (is_above xs n) a).1
 
 -- ---- after a call
 
-pub after_done : (r : Result (Unit {0}) QueueFault) (A : Type 0) (old new : List Queued) (p n : ℕ) (cs : List Change) → OnOk r (A × (new ≡ with_done old p cs)) → OnErr r (new ≡ old) → is_above old n ≡ true → is_above new n ≡ true
-after_done (Ok u) A old new p n cs h g a = ap (λ (qs : List Queued). is_above qs n) h.1 ∙ (done_above old p n cs ∙ a)
-after_done (Err e) A old new p n cs h g a = ap (λ (qs : List Queued). is_above qs n) g ∙ a
+pub after_done : (r : Result (Unit {0}) QueueFault) (A : Type 0) (old new : List Queued) (p n : ℕ) (cs : List Change) (ws : List Item) → OnOk r (A × (new ≡ with_done old p cs ws)) → OnErr r (new ≡ old) → is_above old n ≡ true → is_above new n ≡ true
+after_done (Ok u) A old new p n cs ws h g a = ap (λ (qs : List Queued). is_above qs n) h.1 ∙ (done_above old p n cs ws ∙ a)
+after_done (Err e) A old new p n cs ws h g a = ap (λ (qs : List Queued). is_above qs n) g ∙ a
 
 pub after_handed : (r : Result (Option Work) Memory) (A : Type 0) (B : Work → Type 0) (old new : List Queued) (n : ℕ) → IfOk r (λ o. MatchOption o (A × (new ≡ old)) (λ w. B w × (new ≡ handed_out old))) → OnErr r (new ≡ old) → is_above old n ≡ true → is_above new n ≡ true
 after_handed (Ok None) A B old new n h g a = ap (λ (qs : List Queued). is_above qs n) h.1 ∙ a
@@ -55,7 +56,7 @@ after_handed (Err e) A B old new n h g a = ap (λ (qs : List Queued). is_above q
 
 -- the first one is taken out
 abbrev done_as : WorkDone → Gtid → Queued
-done_as d g = done_at d.place g d.body d.changes
+done_as d g = done_at d.place g d.body d.changes d.items
 
 pub first_out : (o : Option WorkDone) (old was new : List Queued) → old ≡ was → IfSome o (λ d. (g : Gtid) × (old ≡ done_as d g ∷ new) × (is_below None d.place ≡ true)) → IfSome o (λ d. (q : Queued) × (was ≡ q ∷ new) × (q.place ≡ d.place) × (q.body ≡ d.body))
 first_out None old was new e h = h

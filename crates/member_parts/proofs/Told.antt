@@ -100,7 +100,7 @@ all_back p (c ∷ cs) =
     ap (list_all p) (reverse-append (c ∷ []) cs)
     ∙ (list_all-append p (reverse cs) (c ∷ []) ∙ (ap (λ (b : Bool). b && (p c && true)) (all_back p cs) ∙ swap_and (list_all p cs) (p c)))
 
-abbrev settled_to : Life → Inc → ℕ → Cert → Bool
+abbrev pub settled_to : Life → Inc → ℕ → Cert → Bool
 settled_to l me p d = nat_lt p d.place || is_settled l me (executed l) d
 
 abbrev done_to : Life → ℕ → Cert → Bool
@@ -138,7 +138,7 @@ stand_done l p (c ∷ cs) (q ∷ qs) s =
     ap (λ (n : ℕ). (nat_lt p n || is_done_now q) && are_done_to p (map shown qs)) (ap (λ (z : Queued). z.place) s.0)
     ∙ (ap (λ (b : Bool). (nat_lt p c.place || b) && are_done_to p (map shown qs)) s.1 ∙ ap (λ (b : Bool). done_to l p c && b) (stand_done l p cs qs s.2))
 
-prepared_tells : (s : Setup) (me : Inc) (l : Life) (p : ℕ) (x : MemberParts) → is_error (state l) ≡ false → StandsFor s me l x → are_done_to p (map shown x.remotes.queue) ≡ list_all (settled_to l me p) (certs l)
+pub prepared_tells : (s : Setup) (me : Inc) (l : Life) (p : ℕ) (x : MemberParts) → is_error (state l) ≡ false → StandsFor s me l x → are_done_to p (map shown x.remotes.queue) ≡ list_all (settled_to l me p) (certs l)
 prepared_tells s me l p x w f =
     stand_done l p (queue l me) x.remotes.queue (stands me l x.remotes.queue f.queue)
     ∙ (ap (list_all (done_to l p)) (queue_is l me w) ∙ (left_alone l me p (reverse (certs l)) ∙ all_back (settled_to l me p) (certs l)))

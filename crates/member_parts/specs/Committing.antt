@@ -11,7 +11,7 @@ use Rattle.node_rules.specs.Lists.{In}
 use Rattle.group_rules.specs.Commit.{may_commit}
 use Rattle.group_rules.specs.Events.{Cert, Life, Setup}
 use Rattle.group_rules.specs.Life.{is_error, state}
-use Rattle.group_rules.specs.Queue.{pending}
+use Rattle.group_rules.specs.Queue.{at_place, is_done, pending, queue}
 use Rattle.group_rules.specs.declared.said.QueuedPlace.{QueuedPlace}
 use Rattle.apply_queue.specs.declared.work.WorkDone.{WorkDone}
 use Rattle.member_backlog.specs.declared.uncommitted.Uncommitted.{Uncommitted}
@@ -47,6 +47,14 @@ HasNumber None = Unit {0}
 HasNumber (Some g) = IsNumber g.number
 
 -- ---- what is done
+
+-- a transaction with this GTID is queued at the place of a result, which has its items, and the place isn't done
+pub record IsAccepted (me : Inc) (l : Life) (d : WorkDone) (g : Gtid) : Type 0 where
+  pub cert : Cert
+  pub queued : at_place (queue l me) d.place ≡ Some cert
+  pub undone : is_done l d.place ≡ false
+  pub gtid : g ≡ cert.gtid
+  pub items : d.items ≡ cert.txn.items
 
 -- all queued places up to this one are done
 abbrev pub are_done_to : ℕ → List QueuedPlace → Bool

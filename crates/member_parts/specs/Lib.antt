@@ -3,4 +3,5 @@ pub mod Entering
 pub mod Joining
 pub mod Standing
 pub mod Committing
+pub mod Ending
 pub mod Giving

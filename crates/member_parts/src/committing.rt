@@ -10,12 +10,12 @@ ghost use Rattle.slot_values.specs.declared.value.Value.{Value as AnyValue};
 ghost use Rattle.txn_forms.specs.declared.body.Body.{Body as AnyBody};
 ghost use Rattle.group_rules.specs.declared.marks.Cause.{Cause};
 ghost use Rattle.group_rules.specs.Events.{Cert, Committed, Done as IsDone, Is, Life, Made, Setup};
-ghost use Rattle.group_rules.specs.Life.{executed as executed_by, last_made};
+ghost use Rattle.group_rules.specs.Life.{last_made};
 ghost use Rattle.group_rules.specs.Member.{Member as AnyMember};
 ghost use Rattle.group_rules.specs.Steps.{work};
 ghost use Rattle.apply_queue.specs.Following.{waiting_at, with_result};
-ghost use Rattle.apply_queue.specs.Queues.{first_waiting, handed_out};
-ghost use Rattle.member_parts.specs.Committing.{HasNumber, IsWritten, MayGo, prepared_in};
+ghost use Rattle.apply_queue.specs.Queues.{first_waiting, handed_out, refusal};
+ghost use Rattle.member_parts.specs.Committing.{HasNumber, IsAccepted, IsWritten, MayGo, prepared_in};
 ghost use Rattle.member_parts.specs.Standing.{StandsFor};
 
 use crate::certified::uuid_fits;
@@ -43,25 +43,36 @@ impl MemberParts {
         self.remotes.next_work()
     }
 
+    /// The GTID of the place for which a worker's result is, if `done` takes it; why it refuses it if not. Linear in the places before it;
+    /// takes no memory.
+    pub fn accepts(&self, done: &WorkDone) -> Result<Gtid, QueueFault>
+        ensures accepted { IfOk result (λ g. (a : AnyMember) → StandsFor a.setup a.me.inc a.life self.now → IsAccepted a.me.inc a.life done.now g) }
+        ensures sure { OnOk result (refusal self.now.remotes.queue done.now.place done.now.body ≡ None) }
+        ensures refused { IfErr result (λ e. (a : AnyMember) → StandsFor a.setup a.me.inc a.life self.now → work done.now.place (Some done.now.body) a ≡ with_result done.now.place (Some e) a) }
+    {
+        self.remotes.accepts(done)
+    }
+
     /// A worker's result makes its place done. Refused, as the rules say, where the place isn't queued with these bytes, and where it is
-    /// done already. Linear in the places before it; takes no memory.
+    /// done already, and so only where `accepts` refuses it. Linear in the places before it; takes no memory.
     pub fn done(&mut self, done: WorkDone) -> Result<(), QueueFault>
         ensures ok { OnOk result ((s : Setup) (me : Member) (l : Life) → StandsFor s me l self.old → StandsFor s me (IsDone done.place ∷ l) self.new) }
         ensures taken { OnOk result ((a : AnyMember) → StandsFor a.setup a.me.inc a.life self.old → work done.place (Some done.body) a ≡ with_result done.place None a) }
         ensures refused { IfErr result (λ e. (a : AnyMember) → StandsFor a.setup a.me.inc a.life self.old → work done.place (Some done.body) a ≡ with_result done.place (Some e) a) }
+        ensures sure { OnErr result (refusal self.old.remotes.queue done.place done.body ≡ None → ⊥) }
         ensures err { OnErr result (self.new ≡ self.old) }
     {
         self.remotes.done(done)
     }
 
-    /// A transaction that waits is committed, which the executed set has now; what it writes is handed out. It may be committed: it is an own
-    /// one, or it is the first of the queue and done. Linear in those that wait; takes no memory.
-    pub fn commit(&mut self, me: Inc, one: &Uncommitted, executed: &GtidSet) -> Option<WorkDone>
+    /// A transaction that waits is committed; what it writes is handed out. It may be committed: it is an own one, or it is the first of the
+    /// queue and done. Linear in those that wait; takes no memory.
+    pub fn commit(&mut self, me: Inc, one: &Uncommitted) -> Option<WorkDone>
         ensures written { (s : Setup) (l : Life) (c : Cert) → MayGo s me l c one.now → StandsFor s me l self.old → IsWritten c result }
-        ensures stands { (s : Setup) (l : Life) (c : Cert) → executed.now ≡ with_gtid (executed_by l) c.gtid → MayGo s me l c one.now
-            → StandsFor s me l self.old → StandsFor s me (Committed c.gtid ∷ l) self.new }
+        ensures stands { (s : Setup) (l : Life) (c : Cert) → MayGo s me l c one.now → StandsFor s me l self.old
+            → StandsFor s me (Committed c.gtid ∷ l) self.new }
     {
-        self.backlog.settle(executed);
+        self.backlog.commit(one.gtid);
         if is_mine(one, me) {
             self.own.take_out(one.gtid)
         } else {

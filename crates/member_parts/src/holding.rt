@@ -13,6 +13,7 @@ ghost use Rattle.group_rules.specs.Points.{begin_all};
 ghost use Rattle.group_rules.specs.Sessions.{is_holding, phase};
 ghost use Rattle.consistency_waits.specs.Following.{begins};
 ghost use Rattle.consistency_waits.specs.Holding.{is_over, without};
+ghost use Rattle.member_parts.specs.Ending.{IsTurn};
 ghost use Rattle.member_parts.specs.Standing.{StandsFor};
 
 use crate::parts::MemberParts;
@@ -62,6 +63,7 @@ impl MemberParts {
         ensures session { option_map (λ o. o.0) result ≡ option_map (λ h. h.session) (find is_over self.old.waits) }
         ensures limit { option_map (λ o. o.1) result ≡ option_map (λ h. h.limit) (find is_over self.old.waits) }
         ensures rest { MatchOption result (self.new.waits ≡ self.old.waits) (λ o. self.new.waits ≡ without o.0 self.old.waits) }
+        ensures turn { IsTurn self.old self.new result }
         ensures ends { MatchOption result (self.new ≡ self.old) (λ o. (s : Setup) (me : Member) (l : Life) → StandsFor s me l self.old → StandsFor s me (Ends o.0 ∷ l) self.new) }
     {
         self.waits.timed_out()

@@ -30,7 +30,7 @@ use gr_ids::{Inc, Limits, Memory};
 use gtid_sets::GtidSet;
 use list_state::ListState;
 use member_backlog::{Backlog, Uncommitted};
-use paxos_forms::{Given, Welcome, WelcomeMember};
+use paxos_forms::{Given, TryCopy, Welcome, WelcomeMember};
 use prepare_acks::Acks;
 use std::alloc::Global;
 
@@ -129,7 +129,7 @@ fn keep_all(donor: &mut Donor, alloc: Global, txns: &[Given]) -> Result<(), Memo
     ensures { OnOk result (donor.new ≡ record donor.old { certified = with_all donor.old.certified txns.now }) }
 {
     for given in txns {
-        donor.certified(copied(alloc, given)?)?;
+        donor.certified(given.try_copy(alloc)?)?;
     }
     Ok(())
 }
@@ -142,7 +142,7 @@ fn keep_back(donor: &mut Donor, alloc: Global, txns: &[Given]) -> Result<(), Mem
     let mut at = txns.len();
     while at > 0 {
         at -= 1;
-        donor.certified(copied(alloc, &txns[at])?)?;
+        donor.certified(txns[at].try_copy(alloc)?)?;
     }
     Ok(())
 }
@@ -179,17 +179,6 @@ fn queue_given(
     }
     remotes.push(Work {
         place: given.place,
-        gtid: given.gtid,
-        body: given.body.try_copy(alloc)?,
-    })
-}
-
-fn copied(alloc: Global, given: &Given) -> Result<Given, Memory>
-    ensures { IfOk result (λ copy. copy ≡ given.now) }
-{
-    Ok(Given {
-        place: given.place,
-        origin: given.origin,
         gtid: given.gtid,
         body: given.body.try_copy(alloc)?,
     })

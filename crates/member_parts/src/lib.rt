@@ -2,6 +2,7 @@
 //! to be committed, the acknowledgements and the held begins.
 #![tactic(auto)]
 
+mod beginning;
 mod certified;
 mod committing;
 mod entering;
@@ -16,5 +17,5 @@ mod remotes;
 #[cfg(test)]
 mod tests;
 
-pub use laws::parts_stand_on;
+pub use laws::{parts_stand_on, timeouts_are_answered_one_by_one};
 pub use parts::MemberParts;

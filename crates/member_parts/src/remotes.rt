@@ -1,12 +1,13 @@
 // The queue of the transactions of other origins.
 ghost use Rattle.std.specs.Prelude.{◌≡◌, IfErr, IfNone, IfOk, IfSome, MatchOption, None, OnErr, OnOk, Some, nat_le, ◌∷◌};
 ghost use Rattle.gr_ids.specs.declared.memory.Memory.{Memory};
-ghost use Rattle.apply_queue.specs.Queues.{Queued, first_waiting, handed_out, next_commit, refusal, with_done};
+ghost use Rattle.std.specs.Option.{option_map};
+ghost use Rattle.apply_queue.specs.Queues.{Queued, at_place, first_waiting, handed_out, next_commit, refusal, with_done};
 ghost use Rattle.apply_queue.specs.Following.{waiting_at};
 ghost use Rattle.member_parts.specs.Remote.{free_from, no_remote, with_work};
 
 use apply_queue::{Queue, QueueFault, Work, WorkDone};
-use gr_ids::{Memory, Pos};
+use gr_ids::{Gtid, Memory, Pos};
 use std::alloc::Global;
 use std::marker::Model;
 
@@ -61,9 +62,18 @@ impl Remotes {
         self.queue.next_work()
     }
 
+    /// Whether the queue takes a worker's result.
+    pub(crate) fn accepts(&self, done: &WorkDone) -> Result<Gtid, QueueFault>
+        ensures ok { OnOk result (refusal self.now.queue done.now.place done.now.body ≡ None) }
+        ensures gtid { IfOk result (λ g. option_map (λ q. q.gtid) (at_place self.now.queue done.now.place) ≡ Some g) }
+        ensures refused { IfErr result (λ e. refusal self.now.queue done.now.place done.now.body ≡ Some e) }
+    {
+        self.queue.accepts(done)
+    }
+
     /// Takes a worker's result, as the queue does.
     pub(crate) fn done(&mut self, done: WorkDone) -> Result<(), QueueFault>
-        ensures ok { OnOk result ((refusal self.old.queue done.place done.body ≡ None) × (self.new ≡ record self.old { queue = with_done self.old.queue done.place done.changes })) }
+        ensures ok { OnOk result ((refusal self.old.queue done.place done.body ≡ None) × (self.new ≡ record self.old { queue = with_done self.old.queue done.place done.changes done.items })) }
         ensures refused { IfErr result (λ e. refusal self.old.queue done.place done.body ≡ Some e) }
         ensures err { OnErr result (self.new ≡ self.old) }
     {

@@ -14,3 +14,4 @@ pub mod Fallen
 pub mod Called
 pub mod Asked
 pub mod Servers
+pub mod Sent

@@ -1,7 +1,12 @@
 -- What a call leaves.
-use Rattle.std.specs.Prelude.{◌≡◌, ℕ, true, List}
+use Rattle.std.specs.Prelude.{◌≡◌, ◌≤◌, ℕ, true, false, List, Some, length}
 use Rattle.group_rules.specs.declared.requests.Request.TheVariants.{Commit}
-use Rattle.group_rules.specs.Calls.{call}
+use Rattle.txn_forms.specs.declared.body.Body.TheVariants.{Txn as Writes}
+use Rattle.txn_forms.specs.Bodies.{body_bytes}
+use Rattle.txn_forms.specs.Parts.{most_bytes}
+use Rattle.group_rules.specs.Calls.{call, txn_of}
+use Rattle.group_rules.specs.Sessions.{is_holding, phase}
+use Rattle.member_truth.specs.Ranged.{IsSpelt}
 use Rattle.group_rules.specs.Member.{Member}
 use Rattle.local_sessions.specs.declared.commit_step.CommitStep.{CommitStep}
 use Rattle.local_sessions.specs.declared.commit_step.CommitStep.TheVariants.{Ready, Said}
@@ -24,3 +29,13 @@ CommitsTo (Ready b) s a t = OnceSent s b a t
 abbrev pub AsksIfReady : CommitStep → ℕ → MemberTables → Type 0
 AsksIfReady (Said x) s t = Unit {0}
 AsksIfReady (Ready b) s t = is_asked (session_in t.sessions s) ≡ true
+
+-- a body that is handed out is that of the transaction, which can be spelt and read back, and whose begin isn't held
+abbrev pub IsSendable : CommitStep → ℕ → Member → Type 0
+IsSendable (Said x) s a = Unit {0}
+IsSendable (Ready b) s a = (b ≡ body_bytes (Writes (txn_of s a))) × ((is_holding (phase a.life s) ≡ false) × IsSpelt (Some (Writes (txn_of s a))))
+
+-- it isn't empty, and no larger than a body may be
+abbrev pub IsSized : CommitStep → Type 0
+IsSized (Said x) = Unit {0}
+IsSized (Ready b) = (1 ≤ length b) × (length b ≤ most_bytes)

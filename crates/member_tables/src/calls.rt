@@ -9,7 +9,7 @@ ghost use Rattle.group_rules.specs.Member.{Member};
 ghost use Rattle.local_sessions.specs.declared.commit_step.CommitStep.TheVariants.{Said as Says};
 ghost use Rattle.local_sessions.specs.Acting.{reply_to, sent_as};
 ghost use Rattle.local_sessions.specs.Standing.{is_asked, session_in};
-ghost use Rattle.member_tables.specs.Calling.{AsksIfReady, CommitsTo, OnceSent};
+ghost use Rattle.member_tables.specs.Calling.{AsksIfReady, CommitsTo, IsSendable, IsSized, OnceSent};
 ghost use Rattle.member_tables.specs.Standing.{TablesFor};
 
 use crate::tables::MemberTables;
@@ -85,6 +85,8 @@ impl MemberTables {
         ensures answer { IfOk result (λ step. (reply_to self.old.tables (session_in self.old.sessions session) Commit).answer ≡ step) }
         ensures called { IfOk result (λ step. (a : Member) → TablesFor a self.old → CommitsTo step session a self.new) }
         ensures asked { IfOk result (λ step. AsksIfReady step session self.new) }
+        ensures sized { IfOk result IsSized }
+        ensures spelt { IfOk result (λ step. (a : Member) → TablesFor a self.old → IsSendable step session a) }
         ensures err { OnErr result (self.new ≡ self.old) }
     {
         self.sessions.commit(&mut self.tables, session)

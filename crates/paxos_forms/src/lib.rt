@@ -2,6 +2,7 @@
 #![tactic(auto)]
 
 mod codec;
+mod copies;
 mod donors;
 mod fault;
 mod fits;
@@ -19,6 +20,7 @@ mod welcomes;
 mod wires;
 
 pub use codec::{decode, encode};
+pub use copies::{TryCopy, copied};
 pub use fault::MessageFault;
 pub use laws::{bytes_of_messages, no_message_begins_another};
 pub use message::{Message, Wire};

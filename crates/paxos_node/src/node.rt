@@ -155,6 +155,13 @@ impl Node {
         self.learner.learnt_remove(inc)
     }
 
+    /// Whether it knows the log: a joiner's doesn't before its Welcome. Takes constant time.
+    pub fn has_log(&self) -> bool
+        ensures { result ≡ is_some self.now.turns }
+    {
+        self.turns.is_some()
+    }
+
     /// The state of the log that was handed out, from which a Welcome is made. The node is a founder's, or has had a Welcome.
     /// Takes constant time.
     pub fn turns(&self) -> &Turns

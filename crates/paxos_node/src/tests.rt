@@ -2,11 +2,13 @@ ghost use Rattle.std.specs.Prelude.{◌≡◌, true};
 ghost use Rattle.paxos_node.specs.Events.{IsInRange, MayHappen};
 
 use crate::Node;
-use gr_ids::{Ballot, Inc, MemberState, Memory, Mode, Pos, Sequence, ValueId};
+use gr_ids::{Ballot, Blob, Inc, MemberState, Memory, Mode, Pos, Sequence, ValueId};
 use node_rules::PaxosEvent;
 use paxos_forms::{Message, Welcome, WelcomeMember, Wire};
 use slot_values::{Joiner, Kept, Value, What};
 use std::alloc::Global;
+use std::process::Abort;
+use std::str::SplitWhitespace;
 use std::test::Fail;
 
 const A: Inc = Inc {
@@ -43,30 +45,34 @@ fn value(origin: Inc, number: u64, removed: Inc) -> Value {
     }
 }
 
-const PREPARE: u8 = 1;
+fn named(name: &str) -> Inc {
+    match name {
+        "A" => A,
+        "B" => B,
+        "C" => C,
+        _ => D,
+    }
+}
 
-const PROMISE: u8 = 2;
+fn name(inc: Inc) -> &'static str {
+    match inc.server {
+        1 => "A",
+        2 => "B",
+        3 => "C",
+        _ => "D",
+    }
+}
 
-const ACCEPT: u8 = 3;
-
-const ACCEPTED: u8 = 4;
-
-const LEARN: u8 = 5;
-
-const ALIVE: u8 = 10;
-
-const GONE: u8 = 11;
-
-fn kind(wire: &Wire) -> u8 {
+fn kind(wire: &Wire) -> &'static str {
     match wire {
-        Wire::Prepare(_, _) => PREPARE,
-        Wire::Promise(_, _, _) => PROMISE,
-        Wire::Accept(_, _, _) => ACCEPT,
-        Wire::Accepted(_, _) => ACCEPTED,
-        Wire::Learn(_, _) => LEARN,
-        Wire::Alive(_) => ALIVE,
-        Wire::Gone => GONE,
-        _ => 0,
+        Wire::Prepare(_, _) => "prepare",
+        Wire::Promise(_, _, _) => "promise",
+        Wire::Accept(_, _, _) => "accept",
+        Wire::Accepted(_, _) => "accepted",
+        Wire::Learn(_, _) => "learn",
+        Wire::Alive(_) => "alive",
+        Wire::Gone => "gone",
+        _ => "other",
     }
 }
 
@@ -90,102 +96,126 @@ fn is_in_range(wire: &Wire) -> bool
     }
 }
 
-// What happens to the net: an incarnation makes its first value, which removes another; campaigns; has a tick; takes the
-// next slot; or the message of this number, from 1, is taken by its addressee.
-#[derive(Clone, Copy)]
-enum Act {
-    Removes(Inc, Inc),
-    Campaigns(Inc),
-    Ticks(Inc),
-    Takes(Inc),
-    Hears(usize),
+fn step(alloc: Global, node: &mut Node, event: &PaxosEvent) -> Result<Vec<Message>, Fail> {
+    if !may_happen(event) {
+        return Err(Fail::new("out of range"));
+    }
+    Ok(node.step(alloc, event)?)
 }
 
-// Three founders' nodes, every message that they sent, as it is heard, and what they took:
-// slots, and the places at which their values are kept, or 0.
+// Three founders' nodes, every message that they sent, as it is heard, and what is told of them.
 #[derive(Drop)]
 struct Net {
     nodes: Vec<Node>,
     wire: Vec<PaxosEvent>,
-    taken: Vec<(u64, u64)>,
+    told: Blob,
+}
+
+fn node(nodes: &mut [Node], of: Inc) -> Result<&mut Node, Fail> {
+    let at = of.server as usize;
+    match nodes.get_mut(at.saturating_sub(1)) {
+        Some(node) => Ok(node),
+        None => Err(Fail::new("no such node")),
+    }
+}
+
+fn post(wire: &mut Vec<PaxosEvent>, sent: Vec<Message>) -> Result<(), Memory> {
+    for message in sent {
+        wire.push(PaxosEvent::Heard(message))?;
+    }
+    Ok(())
 }
 
 impl Net {
-    fn found(alloc: Global) -> Result<Net, Memory> {
-        let mut nodes = Vec::new(alloc);
+    fn found(&mut self, alloc: Global) -> Result<(), Memory> {
         for me in [A, B, C] {
-            nodes.push(Node::founder(alloc, me, &[A, B, C], 10)?)?;
+            self.nodes.push(Node::founder(alloc, me, &[A, B, C], 10)?)?;
         }
-        Ok(Net {
-            nodes,
-            wire: Vec::new(alloc),
-            taken: Vec::new(alloc),
-        })
-    }
-
-    fn act(&mut self, alloc: Global, act: Act) -> Result<(), Fail> {
-        match act {
-            Act::Removes(inc, removed) => {
-                self.give(alloc, inc, &PaxosEvent::Own(value(inc, 1, removed)))
-            }
-            Act::Campaigns(inc) => self.give(alloc, inc, &PaxosEvent::Campaign),
-            Act::Ticks(inc) => self.give(alloc, inc, &PaxosEvent::Tick),
-            Act::Takes(inc) => self.take(alloc, inc),
-            Act::Hears(number) => self.deliver(alloc, number.saturating_sub(1)),
-        }
+        Ok(())
     }
 
     fn give(&mut self, alloc: Global, to: Inc, event: &PaxosEvent) -> Result<(), Fail> {
-        if !may_happen(event) {
-            return Err(Fail::new("out of range"));
-        }
-        let at = to.server as usize;
-        let Some(node) = self.nodes.get_mut(at.saturating_sub(1)) else {
-            return Err(Fail::new("no such node"));
-        };
-        for message in node.step(alloc, event)? {
-            self.wire.push(PaxosEvent::Heard(message))?;
-        }
-        Ok(())
+        let sent = step(alloc, node(&mut self.nodes, to)?, event)?;
+        Ok(post(&mut self.wire, sent)?)
     }
 
     fn deliver(&mut self, alloc: Global, at: usize) -> Result<(), Fail> {
-        if at >= self.wire.len() {
+        let Some(event) = self.wire.get(at) else {
             return Err(Fail::new("no such message"));
-        }
-        let event = self.wire.remove(at);
-        self.give(alloc, addressee(&event), &event)?;
-        self.wire.insert(at.min(self.wire.len()), event)?;
-        Ok(())
-    }
-
-    fn take(&mut self, alloc: Global, by: Inc) -> Result<(), Fail> {
-        let at = by.server as usize;
-        let Some(node) = self.nodes.get_mut(at.saturating_sub(1)) else {
-            return Err(Fail::new("no such node"));
         };
-        if let Some(one) = node.take(alloc)? {
-            self.taken.push((one.slot, place(&one.kept)))?;
+        let sent = step(alloc, node(&mut self.nodes, addressee(event))?, event)?;
+        Ok(post(&mut self.wire, sent)?)
+    }
+
+    // Tells the taker, the slot, and the place at which its value is kept, or 0.
+    fn take(&mut self, alloc: Global, by: Inc) -> Result<(), Fail> {
+        if let Some(taken) = node(&mut self.nodes, by)?.take(alloc)? {
+            let text = format!(in alloc; " {}{}@{}", name(by), taken.slot, place(&taken.kept))?;
+            self.told.append(text.as_bytes())?;
         }
         Ok(())
     }
 
-    // The messages after the first ones: the addressee's server, and the kind.
-    fn sent_after(&self, alloc: Global, first: usize) -> Result<Vec<(u8, u8)>, Fail> {
-        let mut sent = Vec::new(alloc);
-        for event in &self.wire[first.min(self.wire.len())..] {
-            sent.push((addressee(event).server, kind_of(event)))?;
-        }
-        Ok(sent)
+    // Tells a node's least undecided slot, the round of its promise, and the first slot that isn't forgotten.
+    fn show(&mut self, alloc: Global, of: Inc) -> Result<(), Fail> {
+        let node = node(&mut self.nodes, of)?;
+        let (next, kept) = (node.next(), node.kept_from());
+        let text = format!(in alloc; " {}:{}/{}/{}", name(of), next, round(node), kept)?;
+        Ok(self.told.append(text.as_bytes())?)
     }
 
-    // The least undecided slot, the promise, and the first slot that isn't forgotten.
-    fn state(&self, of: Inc) -> (u64, Option<Ballot>, u64) {
-        let at = of.server as usize;
-        match self.nodes.get(at.saturating_sub(1)) {
-            Some(node) => (node.next(), node.promised(), node.kept_from()),
-            None => (0, None, 0),
+    // Tells the messages after the first ones: the addressee and the kind.
+    fn sent(&mut self, first: usize) -> Result<(), Memory> {
+        for event in &self.wire[first.min(self.wire.len())..] {
+            self.told.append(b" ")?;
+            self.told.append(name(addressee(event)).as_bytes())?;
+            self.told.append(kind_of(event).as_bytes())?;
         }
+        Ok(())
+    }
+
+    // An incarnation makes its first value, which removes D or itself; campaigns; has a tick; takes the next slot; is shown.
+    fn does(&mut self, alloc: Global, inc: Inc, what: &str) -> Result<(), Fail> {
+        match what {
+            "removes" => self.give(alloc, inc, &PaxosEvent::Own(value(inc, 1, D))),
+            "leaves" => self.give(alloc, inc, &PaxosEvent::Own(value(inc, 1, inc))),
+            "campaigns" => self.give(alloc, inc, &PaxosEvent::Campaign),
+            "ticks" => self.give(alloc, inc, &PaxosEvent::Tick),
+            "takes" => self.take(alloc, inc),
+            _ => self.show(alloc, inc),
+        }
+    }
+
+    // What an incarnation does; `sent.` with how many messages to leave out; or the number, from 1, of a message that is heard.
+    fn act(&mut self, alloc: Global, word: &str) -> Result<(), Fail> {
+        match word.split_once('.') {
+            Some(("sent", first)) => Ok(self.sent(number(first) as usize)?),
+            Some((who, what)) => self.does(alloc, named(who), what),
+            None => self.deliver(alloc, (number(word) as usize).saturating_sub(1)),
+        }
+    }
+
+    fn play(&mut self, rt: &impl Abort, alloc: Global, story: &str) -> Result<(), Fail> {
+        let Some((acts, told)) = story.split_once(" =") else {
+            return Err(Fail::new("no story"));
+        };
+        self.found(alloc)?;
+        for word in acts.split_whitespace() {
+            self.act(alloc, word)?;
+        }
+        assert_eq!(rt; self.told.as_slice(), told.as_bytes(), "{story}");
+        Ok(())
+    }
+}
+
+fn number(word: &str) -> u64 {
+    word.parse::<u64>().unwrap_or(0)
+}
+
+fn round(node: &Node) -> u32 {
+    match node.promised() {
+        Some(ballot) => ballot.round,
+        None => 0,
     }
 }
 
@@ -203,268 +233,188 @@ fn addressee(event: &PaxosEvent) -> Inc {
     }
 }
 
-fn kind_of(event: &PaxosEvent) -> u8 {
+fn kind_of(event: &PaxosEvent) -> &'static str {
     match event {
         PaxosEvent::Heard(message) => kind(&message.wire),
-        _ => 0,
+        _ => "other",
     }
 }
 
-fn after(alloc: Global, acts: &[Act]) -> Result<Net, Fail> {
-    let mut net = Net::found(alloc)?;
-    for act in acts {
-        net.act(alloc, *act)?;
+// In the first a leader's value is voted for by C alone, and C leads then; the old leader's Accept to B hasn't come when B
+// promises. So one value is chosen in two slots. Then an old leader's Accept isn't voted for; a lost promise is asked for
+// again; slots that all have told are forgotten; and who was removed is told so.
+const STORIES: &str = "\
+B.removes 1 3 C.campaigns 6 B.ticks 10 7 11 15 13 18 C.takes C.takes 16 19 A.takes A.takes 4 15 sent.20 A.shows = C1@1 C2@0 A1@1 A2@0 A:3/2/1
+B.removes 1 3 C.campaigns 6 2 sent.3 = Aaccepted Aprepare Bprepare Cpromise
+B.campaigns 2 B.ticks sent.3 7 8 B.removes 10 11 B.takes = Aalive Calive Aprepare Cprepare B1@1
+A.removes 1 2 3 5 6 A.takes B.takes C.takes A.ticks B.ticks C.ticks 9 A.shows 11 A.shows = A1@1 B1@1 C1@1 A:2/1/1 A:2/1/2
+C.leaves 1 2 4 5 A.takes B.takes B.ticks 7 C.campaigns 8 sent.9 A.shows = A1@1 B1@1 Cgone A:2/1/2";
+
+fn tell(rt: &impl Abort, alloc: Global, story: &str) -> Result<(), Fail> {
+    let mut net = Net {
+        nodes: Vec::new(alloc),
+        wire: Vec::new(alloc),
+        told: Blob::from_vec(Vec::new(alloc)),
+    };
+    net.play(rt, alloc, story)
+}
+
+#[test]
+fn nodes_agree(rt: HostRuntime) -> Result<(), Fail> {
+    for story in STORIES.lines() {
+        tell(&rt, rt.alloc(), story)?;
     }
-    Ok(net)
-}
-
-// A leader's value is voted for by C alone, and C leads then; the old leader's Accept to B hasn't come when B promises.
-#[test]
-fn one_value_is_chosen_in_two_slots(rt: HostRuntime) -> Result<(), Fail> {
-    let acts = [
-        Act::Removes(B, D),
-        Act::Hears(1),
-        Act::Hears(3),
-        Act::Campaigns(C),
-        Act::Hears(6),
-        Act::Ticks(B),
-        Act::Hears(10),
-        Act::Hears(7),
-        Act::Hears(11),
-        Act::Hears(15),
-        Act::Hears(13),
-        Act::Hears(18),
-        Act::Takes(C),
-        Act::Takes(C),
-        Act::Hears(16),
-        Act::Hears(19),
-        Act::Takes(A),
-        Act::Takes(A),
-        Act::Hears(4),
-        Act::Hears(15),
-    ];
-    let net = after(rt.alloc(), &acts)?;
-    assert_eq!(rt;
-        net.taken.as_slice(),
-        [(1, 1), (2, 0), (1, 1), (2, 0)].as_slice()
-    );
-    assert_eq!(rt; net.wire.len(), 20);
-    assert_eq!(rt; net.state(A), (3, Some(SECOND), 1));
     Ok(())
 }
 
-#[test]
-fn an_old_leaders_accept_is_not_voted_for(rt: HostRuntime) -> Result<(), Fail> {
-    let acts = [
-        Act::Removes(B, D),
-        Act::Hears(1),
-        Act::Hears(3),
-        Act::Campaigns(C),
-        Act::Hears(6),
-        Act::Hears(2),
-    ];
-    let net = after(rt.alloc(), &acts)?;
-    let sent = net.sent_after(rt.alloc(), 3)?;
-    let wanted = [(1, ACCEPTED), (1, PREPARE), (2, PREPARE), (3, PROMISE)];
-    assert_eq!(rt; sent.as_slice(), wanted.as_slice());
-    Ok(())
-}
-
-#[test]
-fn a_lost_promise_is_asked_for_again(rt: HostRuntime) -> Result<(), Fail> {
-    let acts = [
-        Act::Campaigns(B),
-        Act::Hears(2),
-        Act::Ticks(B),
-        Act::Hears(7),
-        Act::Hears(8),
-        Act::Removes(B, D),
-        Act::Hears(10),
-        Act::Hears(11),
-        Act::Takes(B),
-    ];
-    let net = after(rt.alloc(), &acts)?;
-    let sent = net.sent_after(rt.alloc(), 3)?;
-    let again = [(1, ALIVE), (3, ALIVE), (1, PREPARE), (3, PREPARE)];
-    assert!(rt; sent.as_slice().starts_with(again.as_slice()));
-    assert_eq!(rt; net.taken.as_slice(), [(1, 1)].as_slice());
-    Ok(())
-}
-
-#[test]
-fn slots_that_all_have_told_are_forgotten(rt: HostRuntime) -> Result<(), Fail> {
-    let acts = [
-        Act::Removes(A, D),
-        Act::Hears(1),
-        Act::Hears(2),
-        Act::Hears(3),
-        Act::Hears(5),
-        Act::Hears(6),
-        Act::Takes(A),
-        Act::Takes(B),
-        Act::Takes(C),
-        Act::Ticks(A),
-        Act::Ticks(B),
-        Act::Ticks(C),
-        Act::Hears(9),
-    ];
-    let mut net = after(rt.alloc(), &acts)?;
-    assert_eq!(rt; net.state(A), (2, Some(FIRST), 1));
-    net.act(rt.alloc(), Act::Hears(11))?;
-    assert_eq!(rt; net.state(A), (2, Some(FIRST), 2));
-    Ok(())
-}
-
-#[test]
-fn who_was_removed_is_told_so(rt: HostRuntime) -> Result<(), Fail> {
-    let acts = [
-        Act::Removes(C, C),
-        Act::Hears(1),
-        Act::Hears(2),
-        Act::Hears(4),
-        Act::Hears(5),
-        Act::Takes(A),
-        Act::Takes(B),
-        Act::Ticks(B),
-        Act::Hears(7),
-        Act::Campaigns(C),
-        Act::Hears(8),
-    ];
-    let net = after(rt.alloc(), &acts)?;
-    let sent = net.sent_after(rt.alloc(), 9)?;
-    assert_eq!(rt; sent.as_slice(), [(3, GONE)].as_slice());
-    assert_eq!(rt; net.state(A), (2, Some(FIRST), 2));
-    Ok(())
-}
-
-// What a node is told: a slot goes with a ballot, and with the origin of the first value that it makes.
-#[derive(Clone, Copy)]
-enum Says {
-    Prepare(Ballot),
-    Promise(Ballot),
-    Accept(Ballot, u64),
-    Accepted(Ballot, u64),
-    Learn(u64, Inc),
-    Offer(u64),
-    Alive(u64),
-    Gone,
-}
-
-fn said(alloc: Global, says: Says) -> Wire {
-    match says {
-        Says::Prepare(ballot) => Wire::Prepare(ballot, 1),
-        Says::Promise(ballot) => Wire::Promise(ballot, 1, Sequence::new(alloc)),
-        Says::Accept(ballot, slot) => Wire::Accept(ballot, slot, value(C, 1, D)),
-        Says::Accepted(ballot, slot) => Wire::Accepted(ballot, slot),
-        Says::Learn(slot, origin) => Wire::Learn(slot, value(origin, 1, origin)),
-        Says::Offer(number) => Wire::Offer(value(C, number, D)),
-        Says::Alive(slot) => Wire::Alive(slot),
-        Says::Gone => Wire::Gone,
+fn ballot(round: &str) -> Ballot {
+    match round {
+        "1" => FIRST,
+        "2" => SECOND,
+        _ => THIRD,
     }
 }
 
-// How many messages the node sends when it hears this, and of which kind the last one is.
-fn answer(alloc: Global, node: &mut Node, from: Inc, wire: Wire) -> Result<(usize, u8), Fail> {
-    let to = B;
-    let event = PaxosEvent::Heard(Message { from, to, wire });
-    if !may_happen(&event) {
-        return Err(Fail::new("out of range"));
+// A message of this kind: with a slot or number, and a ballot by its round or the origin of the value.
+fn wire(alloc: Global, kind: &str, by: &str, slot: u64) -> Wire {
+    match kind {
+        "prepare" => Wire::Prepare(ballot(by), 1),
+        "promise" => Wire::Promise(ballot(by), 1, Sequence::new(alloc)),
+        "accept" => Wire::Accept(ballot(by), slot, value(C, 1, D)),
+        "accepted" => Wire::Accepted(ballot(by), slot),
+        "learn" => Wire::Learn(slot, value(named(by), 1, named(by))),
+        "offer" => Wire::Offer(value(C, slot, D)),
+        "alive" => Wire::Alive(slot),
+        _ => Wire::Gone,
     }
-    let sent = node.step(alloc, &event)?;
+}
+
+fn hear(alloc: Global, node: &mut Node, from: Inc, wire: Wire) -> Result<Vec<Message>, Fail> {
+    let message = Message { from, to: B, wire };
+    step(alloc, node, &PaxosEvent::Heard(message))
+}
+
+fn next_word<'a>(words: &mut SplitWhitespace<'a>) -> &'a str {
+    words.next().unwrap_or("")
+}
+
+fn answered(sent: &[Message]) -> &'static str {
     match sent.last() {
-        Some(message) => Ok((sent.len(), kind(&message.wire))),
-        None => Ok((0, 0)),
+        Some(message) => kind(&message.wire),
+        None => "nothing",
     }
 }
 
-// Each row: the sender, what it says, how many messages answer, of which kind, the promise then, and the least
-// undecided slot.
-#[test]
-fn a_node_that_follows_answers_by_its_rows(rt: HostRuntime) -> Result<(), Fail> {
-    let rows = [
-        (C, Says::Accept(SECOND, 3), 1, ACCEPTED, SECOND, 1),
-        (A, Says::Accept(FIRST, 3), 0, 0, SECOND, 1),
-        (A, Says::Prepare(FIRST), 0, 0, SECOND, 1),
-        (C, Says::Prepare(SECOND), 1, PROMISE, SECOND, 1),
-        (A, Says::Prepare(THIRD), 1, PROMISE, THIRD, 1),
-        (C, Says::Promise(THIRD), 0, 0, THIRD, 1),
-        (C, Says::Accepted(THIRD, 3), 0, 0, THIRD, 1),
-        (A, Says::Learn(2, D), 0, 0, THIRD, 1),
-        (A, Says::Learn(1, A), 0, 0, THIRD, 3),
-        (A, Says::Learn(1, B), 0, 0, THIRD, 3),
-        (C, Says::Offer(0), 0, 0, THIRD, 3),
-        (C, Says::Offer(2), 0, 0, THIRD, 3),
-        (C, Says::Alive(1), 2, LEARN, THIRD, 3),
-        (C, Says::Alive(2), 1, LEARN, THIRD, 3),
-        (C, Says::Alive(3), 0, 0, THIRD, 3),
-        (D, Says::Alive(1), 0, 0, THIRD, 3),
-        (A, Says::Gone, 0, 0, THIRD, 3),
-    ];
-    let mut node = Node::founder(rt.alloc(), B, &[A, B, C], 10)?;
-    for (from, says, count, kind, promise, next) in rows {
-        let sent = answer(rt.alloc(), &mut node, from, said(rt.alloc(), says))?;
-        assert_eq!(rt; sent, (count, kind));
-        assert_eq!(rt; (node.promised(), node.next()), (Some(promise), next));
+// A line is the sender, the kind, the slot or number, the ballot or origin; and how many messages answer, of which kind the
+// last one is, the round of the promise then, and the least undecided slot.
+fn answer(rt: &impl Abort, alloc: Global, node: &mut Node, line: &str) -> Result<(), Fail> {
+    let Some((heard, wanted)) = line.split_once(" = ") else {
+        return Err(Fail::new("no answer"));
+    };
+    let mut words = heard.split_whitespace();
+    let from = named(next_word(&mut words));
+    let kind = next_word(&mut words);
+    let slot = number(next_word(&mut words));
+    let wire = wire(alloc, kind, next_word(&mut words), slot);
+    let sent = hear(alloc, node, from, wire)?;
+    let (count, last) = (sent.len(), answered(&sent));
+    let text = format!(in alloc; "{count} {last} {} {}", round(node), node.next())?;
+    assert_eq!(rt; text.as_str(), wanted, "{line}");
+    Ok(())
+}
+
+const FOLLOWER: &str = "\
+C accept 3 2 = 1 accepted 2 1
+A accept 3 1 = 0 nothing 2 1
+A prepare 0 1 = 0 nothing 2 1
+C prepare 0 2 = 1 promise 2 1
+A prepare 0 3 = 1 promise 3 1
+C promise 0 3 = 0 nothing 3 1
+C accepted 3 3 = 0 nothing 3 1
+A learn 2 D = 0 nothing 3 1
+A learn 1 A = 0 nothing 3 3
+A learn 1 B = 0 nothing 3 3
+C offer 0 - = 0 nothing 3 3
+C offer 2 - = 0 nothing 3 3
+C alive 1 - = 2 learn 3 3
+C alive 2 - = 1 learn 3 3
+C alive 3 - = 0 nothing 3 3
+D alive 1 - = 0 nothing 3 3
+A gone 0 - = 0 nothing 3 3";
+
+const LEADER: &str = "\
+C offer 0 - = 0 nothing 1 1
+C offer 1 - = 2 accept 1 1
+C offer 1 - = 0 nothing 1 1
+C accepted 1 2 = 0 nothing 1 1
+C accepted 9 1 = 0 nothing 1 1
+C promise 0 2 = 0 nothing 1 1
+C accepted 1 1 = 2 learn 1 2
+B accepted 1 1 = 0 nothing 1 2
+C offer 1 - = 2 accept 1 2
+C prepare 0 2 = 1 promise 2 2
+C offer 2 - = 0 nothing 2 2";
+
+fn answer_all(rt: &impl Abort, alloc: Global, node: &mut Node, lines: &str) -> Result<(), Fail> {
+    for line in lines.lines() {
+        answer(rt, alloc, node, line)?;
     }
+    Ok(())
+}
+
+#[test]
+fn a_follower_answers_by_its_rows(rt: HostRuntime) -> Result<(), Fail> {
+    let mut node = Node::founder(rt.alloc(), B, &[A, B, C], 10)?;
+    answer_all(&rt, rt.alloc(), &mut node, FOLLOWER)?;
     assert!(rt; node.learnt_remove(A) && !node.learnt_remove(B));
     Ok(())
 }
 
-// Each row: the sender, what it says to the leader, how many messages answer, and of which kind.
 #[test]
 fn a_leader_answers_by_its_rows(rt: HostRuntime) -> Result<(), Fail> {
-    let rows = [
-        (C, Says::Offer(0), 0, 0),
-        (C, Says::Offer(1), 2, ACCEPT),
-        (C, Says::Offer(1), 0, 0),
-        (C, Says::Accepted(SECOND, 1), 0, 0),
-        (C, Says::Accepted(FIRST, 9), 0, 0),
-        (C, Says::Promise(SECOND), 0, 0),
-        (C, Says::Accepted(FIRST, 1), 2, LEARN),
-        (B, Says::Accepted(FIRST, 1), 0, 0),
-        (C, Says::Offer(1), 2, ACCEPT),
-        (C, Says::Prepare(SECOND), 1, PROMISE),
-        (C, Says::Offer(2), 0, 0),
-    ];
     let mut node = Node::founder(rt.alloc(), A, &[A, B, C], 10)?;
     assert_eq!(rt; node.turns().members(), [A, B, C].as_slice());
-    for (from, says, count, kind) in rows {
-        let sent = answer(rt.alloc(), &mut node, from, said(rt.alloc(), says))?;
-        assert_eq!(rt; sent, (count, kind));
-    }
-    Ok(())
+    answer_all(&rt, rt.alloc(), &mut node, LEADER)
 }
 
-fn members(alloc: Global) -> Result<Vec<WelcomeMember>, Memory> {
-    let states = [
-        (A, MemberState::Online),
-        (B, MemberState::Online),
-        (D, MemberState::Recovering),
-    ];
-    let mut members = Vec::new(alloc);
-    for (inc, state) in states {
-        let joiner = Joiner {
-            inc,
-            uuid: [inc.server; 16],
-            version: [8, 0, 36],
-            weight: 50,
-        };
-        members.push(WelcomeMember {
-            joiner,
-            state,
-            last: 0,
-        })?;
+fn member(inc: Inc, state: MemberState) -> WelcomeMember {
+    let joiner = Joiner {
+        inc,
+        uuid: [inc.server; 16],
+        version: [8, 0, 36],
+        weight: 50,
+    };
+    WelcomeMember {
+        joiner,
+        state,
+        last: 0,
     }
-    Ok(members)
+}
+
+fn members(alloc: Global) -> Result<Sequence<WelcomeMember>, Memory> {
+    let members = [
+        member(A, MemberState::Online),
+        member(B, MemberState::Online),
+        member(D, MemberState::Recovering),
+    ];
+    Ok(Sequence::from_vec(members.to_vec(alloc)?))
+}
+
+fn incs(alloc: Global, incs: &[Inc]) -> Result<Sequence<Inc>, Memory> {
+    Ok(Sequence::from_vec(incs.to_vec(alloc)?))
+}
+
+fn configs(alloc: Global, known: usize) -> Result<Sequence<Sequence<Inc>>, Memory> {
+    let mut configs = Vec::new(alloc);
+    for _ in 1..known {
+        configs.push(incs(alloc, &[A, B])?)?;
+    }
+    configs.push(incs(alloc, &[A, B, D])?)?;
+    Ok(Sequence::from_vec(configs))
 }
 
 // D was added to A and B in this slot; so many configurations are told.
 fn welcome(alloc: Global, slot: u64, known: usize) -> Result<Wire, Memory> {
-    let mut configs = Vec::new(alloc);
-    for _ in 1..known {
-        configs.push(Sequence::from_vec([A, B].to_vec(alloc)?))?;
-    }
-    configs.push(Sequence::from_vec([A, B, D].to_vec(alloc)?))?;
     Ok(Wire::Welcome(Welcome {
         slot,
         place: Pos(2),
@@ -473,9 +423,9 @@ fn welcome(alloc: Global, slot: u64, known: usize) -> Result<Wire, Memory> {
         mode: Mode::Multi,
         primary: None,
         elected: Pos(0),
-        members: Sequence::from_vec(members(alloc)?),
-        ever: Sequence::from_vec([A, B, D].to_vec(alloc)?),
-        configs: Sequence::from_vec(configs),
+        members: members(alloc)?,
+        ever: incs(alloc, &[A, B, D])?,
+        configs: configs(alloc, known)?,
     }))
 }
 
@@ -486,22 +436,25 @@ fn known_members(node: &Node, slot: u64) -> usize {
     }
 }
 
-// It promises before it is welcomed, and that promise isn't lowered.
-#[test]
-fn a_joiner_begins_with_its_first_welcome(rt: HostRuntime) -> Result<(), Fail> {
-    let alloc = rt.alloc();
-    let mut node = Node::joiner(alloc, D, 10);
-    assert!(rt; node.promised().is_none() && node.config(1).is_none());
-    for says in [Says::Prepare(THIRD), Says::Learn(6, A)] {
-        answer(alloc, &mut node, B, said(alloc, says))?;
-    }
+// It promises before it is welcomed, and that promise isn't lowered. The second Welcome is whole, the others aren't taken.
+fn joins(rt: &impl Abort, alloc: Global, node: &mut Node) -> Result<(), Fail> {
+    hear(alloc, node, B, wire(alloc, "prepare", "3", 1))?;
+    hear(alloc, node, B, wire(alloc, "learn", "A", 6))?;
     for (slot, known, next) in [(5, 9, 0), (5, 10, 7), (8, 10, 7)] {
-        answer(alloc, &mut node, B, welcome(alloc, slot, known)?)?;
+        hear(alloc, node, B, welcome(alloc, slot, known)?)?;
         assert_eq!(rt; node.next(), next);
     }
-    assert_eq!(rt; (node.promised(), node.kept_from()), (Some(THIRD), 6));
     for (slot, count) in [(5, 0), (6, 2), (14, 2), (15, 3), (16, 0)] {
-        assert_eq!(rt; known_members(&node, slot), count);
+        assert_eq!(rt; known_members(node, slot), count);
     }
+    Ok(())
+}
+
+#[test]
+fn a_joiner_begins_with_its_first_welcome(rt: HostRuntime) -> Result<(), Fail> {
+    let mut node = Node::joiner(rt.alloc(), D, 10);
+    assert!(rt; node.promised().is_none() && node.config(1).is_none());
+    joins(&rt, rt.alloc(), &mut node)?;
+    assert_eq!(rt; (node.promised(), node.kept_from()), (Some(THIRD), 6));
     Ok(())
 }

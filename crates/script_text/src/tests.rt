@@ -1,6 +1,7 @@
-use crate::{LineFault, make_script, parse_line, parse_scene, read_number};
+use crate::{Line, LineFault, make_script, parse_line, parse_scene, read_number};
+use gr_ids::Memory;
 use group_rules::Step;
-use std::test::Fail;
+use std::alloc::Global;
 
 const GOOD: &str = "
    
@@ -172,65 +173,76 @@ drain
 settle
 01 commit";
 
+fn line_fault(alloc: Global, line: &str) -> Option<LineFault> {
+    parse_line(alloc, line.as_bytes(), 7).err()
+}
+
+fn scene_fault(alloc: Global, line: &str) -> Option<LineFault> {
+    parse_scene(alloc, line.as_bytes(), 7).err()
+}
+
 #[test]
-fn scenes_are_read_or_refused(rt: HostRuntime) -> Result<(), Fail> {
+fn good_lines_are_read(rt: HostRuntime) {
+    for line in GOOD.lines() {
+        assert_eq!(rt; line_fault(rt.alloc(), line), None, "{line}");
+    }
     for line in GOOD_SCENES.lines() {
-        assert!(rt;
-            parse_scene(rt.alloc(), line.as_bytes(), 7).is_ok(),
-            "{line}"
-        );
+        assert_eq!(rt; scene_fault(rt.alloc(), line), None, "{line}");
+    }
+}
+
+#[test]
+fn bad_lines_are_refused(rt: HostRuntime) {
+    let bad = Some(LineFault::BadLine);
+    for line in BAD.lines() {
+        assert_eq!(rt; line_fault(rt.alloc(), line), bad, "{line}");
     }
     for line in BAD_SCENES.lines() {
-        match parse_scene(rt.alloc(), line.as_bytes(), 7) {
-            Ok(_) => assert!(rt; false, "{line}"),
-            Err(fault) => assert_eq!(rt; fault, LineFault::BadLine, "{line}"),
-        }
+        assert_eq!(rt; scene_fault(rt.alloc(), line), bad, "{line}");
     }
-    Ok(())
 }
 
 #[test]
-fn lines_are_read_or_refused(rt: HostRuntime) -> Result<(), Fail> {
-    for line in GOOD.lines() {
-        assert!(rt;
-            parse_line(rt.alloc(), line.as_bytes(), 7).is_ok(),
-            "{line}"
-        );
-    }
-    for line in BAD.lines() {
-        match parse_line(rt.alloc(), line.as_bytes(), 7) {
-            Ok(_) => assert!(rt; false, "{line}"),
-            Err(fault) => assert_eq!(rt; fault, LineFault::BadLine, "{line}"),
-        }
-    }
-    Ok(())
-}
-
-#[test]
-fn numbers_end_at_64_bits(rt: HostRuntime) -> Result<(), Fail> {
+fn numbers_end_at_64_bits(rt: HostRuntime) {
     assert_eq!(rt; read_number(b"0"), Some(0));
     assert_eq!(rt;
         read_number(b"18446744073709551615"),
         Some(18446744073709551615)
     );
     assert_eq!(rt; read_number(b"18446744073709551616"), None);
-    Ok(())
 }
 
-#[test]
-fn scripts_are_made(rt: HostRuntime) -> Result<(), Fail> {
-    let lines = make_script(rt.alloc(), 1, 0)?;
-    assert_eq!(rt; lines.len(), 3);
-    match &lines[1].step {
-        Some(Step::Operate { .. }) => {}
-        _ => assert!(rt; false, "the first kind drawn from 0 is 7"),
+fn kind(line: &Line) -> &'static str {
+    match &line.step {
+        Some(Step::Operate { .. }) => "operate",
+        Some(Step::Tick { .. }) => "tick",
+        _ => "other",
     }
+}
+
+fn second_kind(lines: &[Line]) -> &'static str {
+    match lines.get(1) {
+        Some(line) => kind(line),
+        None => "none",
+    }
+}
+
+fn last_number(lines: &[Line]) -> u64 {
+    match lines.last() {
+        Some(line) => line.number,
+        None => 0,
+    }
+}
+
+// The first kind drawn from 7 is 6, and from 0 it is 7.
+#[test]
+fn scripts_are_made(rt: HostRuntime) -> Result<(), Memory> {
     let lines = make_script(rt.alloc(), 2, 7)?;
     assert_eq!(rt; lines.len(), 4);
-    assert_eq!(rt; lines[3].number, 4);
-    match &lines[1].step {
-        Some(Step::Tick { .. }) => {}
-        _ => assert!(rt; false, "the first kind drawn from 7 is 6"),
-    }
+    assert_eq!(rt; last_number(&lines), 4);
+    assert_eq!(rt; second_kind(&lines), "tick");
+    let lines = make_script(rt.alloc(), 1, 0)?;
+    assert_eq!(rt; lines.len(), 3);
+    assert_eq!(rt; second_kind(&lines), "operate");
     Ok(())
 }

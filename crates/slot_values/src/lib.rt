@@ -1,6 +1,7 @@
 //! What a slot decides: values, the rule by which they are kept, and the configurations behind the horizon.
 #![tactic(auto)]
 
+mod copies;
 mod kept;
 mod laws;
 mod member;

@@ -19,10 +19,11 @@ use name_forms::{put_gtid, put_inc, take_gtid, take_inc};
 use std::alloc::Global;
 
 /// The bytes of a body, which are read as that body again. Linear in them. A set whose counts need more than four
-/// bytes has no spelling, and is answered as want of memory; it would take 128 GiB.
+/// bytes has no spelling, and is answered as want of memory; it would take 128 GiB. So a body that has bytes is one that memory holds.
 pub fn encode(alloc: Global, body: &Body) -> Result<Blob, Memory>
     requires { IsBody body.now }
     ensures ok { IfOk result (λ blob. blob ≡ body_bytes body.now) }
+    ensures held { OnOk result (IsHeld body.now) }
     ensures back { IfOk result (λ blob. whole next_body blob ≡ Got body.now []) }
 {
     let mut to = Packer::new(alloc);

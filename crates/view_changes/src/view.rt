@@ -3,6 +3,7 @@ ghost use Rattle.std.specs.Prelude.{◌≡◌, ◌≤◌, ◌^◌, IfOk, OnErr, 
 ghost use Rattle.std.specs.Option.{option_map};
 ghost use Rattle.gr_ids.specs.Names.{inc_eq};
 ghost use Rattle.gr_ids.specs.declared.memory.Memory.{Memory};
+ghost use Rattle.group_rules.specs.Holds.{elected_in};
 ghost use Rattle.group_rules.specs.View.{View as ViewOf, effect_in, founding, next_view};
 ghost use Rattle.view_changes.specs.Told.{told_view};
 
@@ -149,6 +150,16 @@ impl View {
         ensures { result ≡ self.now.primary }
     {
         self.primary
+    }
+
+    /// The place at which this member became primary, None exactly where it isn't the primary in single-primary mode.
+    pub fn elected_as(&self, me: Inc) -> Option<Pos>
+        ensures { result ≡ elected_in self.now me }
+    {
+        match (self.mode, self.primary) {
+            (Mode::Single, Some(primary)) if primary == me => Some(Pos(self.elected)),
+            _ => None,
+        }
     }
 
     /// The place at which the present primary became primary, 0 where there is none or it was elected at the founding.

@@ -1,7 +1,6 @@
 pub mod Dropping
 pub mod Indexing
 pub mod Least
-pub mod Lengths
 pub mod Numbered
 pub mod Members
 pub mod Results

@@ -3,9 +3,9 @@ ghost use Rattle.std.specs.Prelude.{◌≡◌, ◌&&◌, true, IfOk};
 ghost use Rattle.group_rules.specs.Script.{letter as letter_of, wire_kind};
 ghost use Rattle.world_wire.specs.Nexts.{are_among as are_servers_among, is_next_of, is_open, serves as serves_between};
 
-use crate::sizes::message_size;
 use gr_ids::{Inc, Memory};
 use group_rules::WireLine;
+use message_sizes::message_size;
 use paxos_forms::{Message, Wire};
 use std::alloc::Global;
 use std::marker::Model;

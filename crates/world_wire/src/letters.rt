@@ -3,9 +3,9 @@ ghost use Rattle.std.specs.Prelude.{◌≡◌, map, IfOk};
 ghost use Rattle.group_rules.specs.Script.{letter as letter_of, total, wire_lines};
 
 use crate::letter::Letter;
-use crate::sums::sum;
 use gr_ids::Memory;
 use group_rules::WireLine;
+use message_sizes::sum;
 use paxos_forms::Message;
 use std::alloc::Global;
 

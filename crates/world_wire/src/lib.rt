@@ -3,13 +3,10 @@
 
 mod amount;
 mod fault;
-mod forms;
 mod lane;
 mod lanes;
 mod letter;
 mod letters;
-mod sizes;
-mod sums;
 #[cfg(test)]
 mod tests;
 mod wire;

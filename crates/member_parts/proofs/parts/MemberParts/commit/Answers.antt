@@ -12,9 +12,9 @@ returns-then-is_mine-clause-written c = λ s l e h f.
     own_written s c.args.me l e c.args.one.now c.args.one.now.gtid c.args.self.now c.take_out.result h (ap (λ (u : Uncommitted). inc_eq u.id.origin c.args.me) (sym h.is_it) ∙ sym c.if-is_mine.ensures) (ap (λ (u : Uncommitted). u.gtid) h.is_it) c.take_out.ensures.found f
 
 pub returns-then-is_mine-clause-stands : goal.returns-then-is_mine-clause-stands
-returns-then-is_mine-clause-stands c = λ s l e ez h f.
+returns-then-is_mine-clause-stands c = λ s l e h f.
     (let x : MemberParts = c.args.self.now in
-    commits_own s c.args.me l e c.args.one.now c.args.executed.now x c.settle.new.self c.take_out.new.self ez h (ap (λ (u : Uncommitted). inc_eq u.id.origin c.args.me) (sym h.is_it) ∙ sym c.if-is_mine.ensures) c.settle.ensures
+    commits_own s c.args.me l e c.args.one.now x c.commit.new.self c.take_out.new.self h (ap (λ (u : Uncommitted). inc_eq u.id.origin c.args.me) (sym h.is_it) ∙ sym c.if-is_mine.ensures) c.commit.ensures
     (c.take_out.ensures.rest ∙ ap (λ (u : Uncommitted). without_own u.gtid x.own) h.is_it) f)
 
 pub returns-else-is_mine-clause-written : goal.returns-else-is_mine-clause-written
@@ -23,6 +23,6 @@ returns-else-is_mine-clause-written c = λ s l e h f.
     (record { none = c.commits.ensures.none; some = c.commits.ensures.some; last = c.commits.ensures.last }) f
 
 pub returns-else-is_mine-clause-stands : goal.returns-else-is_mine-clause-stands
-returns-else-is_mine-clause-stands c = λ s l e ez h f.
-    out_stands s c.args.me l e c.args.one.now c.args.executed.now c.args.self.now c.settle.new.self c.commits.new.self c.commits.result ez h (ap (λ (u : Uncommitted). inc_eq u.id.origin c.args.me) (sym h.is_it) ∙ sym c.if-is_mine.ensures) c.settle.ensures
+returns-else-is_mine-clause-stands c = λ s l e h f.
+    out_stands s c.args.me l e c.args.one.now c.args.self.now c.commit.new.self c.commits.new.self c.commits.result h (ap (λ (u : Uncommitted). inc_eq u.id.origin c.args.me) (sym h.is_it) ∙ sym c.if-is_mine.ensures) c.commit.ensures
     (record { none = c.commits.ensures.none; some = c.commits.ensures.some; last = c.commits.ensures.last }) f

@@ -1,0 +1,6 @@
+-- Those so far are copied.
+use Rattle.std.proofs.Common.{◌≡◌, take}
+use Rattle.paxos_forms.proofs.copies.copied.Given as goal
+
+abbrev pub invariant-loop-item : goal.invariant-loop-item
+invariant-loop-item g l = l.copies.items ≡ take l.item-index l.items
