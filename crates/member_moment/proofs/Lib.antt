@@ -14,3 +14,5 @@ pub mod Spelt
 pub mod Came
 pub mod Causes
 pub mod Taken
+pub mod Worked
+pub mod Committed

@@ -4,7 +4,7 @@
 mod arriving;
 mod beginning;
 mod calling;
-//mod committing;
+mod committing;
 mod ending;
 //mod joining;
 mod moment;
@@ -12,7 +12,7 @@ mod ordering;
 mod owning;
 mod saying;
 mod taking;
-//mod working;
+mod working;
 
 pub use moment::{Left, Moment};
 pub use taking::Caused;
