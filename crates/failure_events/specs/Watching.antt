@@ -1,11 +1,11 @@
 -- A member that watches the others: who it is, its limits, and the watch that it keeps.
-use Rattle.std.specs.Prelude.{◌≡◌, ℕ, Bool, true, false, ◌&&◌, not, List, ◌++◌, filter, map, min}
+use Rattle.std.specs.Prelude.{◌≡◌, ℕ, Bool, true, false, not, List, ◌++◌, filter, map, min}
 use Rattle.std.specs.List.{list_any}
 use Rattle.gr_ids.specs.declared.names.Inc.{Inc}
 use Rattle.gr_ids.specs.declared.limits.Limits.{Limits}
 use Rattle.gr_ids.specs.Names.{inc_eq, has_inc}
 use Rattle.group_rules.specs.declared.watch.Silence.{Silence}
-use Rattle.group_rules.specs.Watch.{Watch, no_watch, follow_all, is_expel_due, leads_by_rank, watch}
+use Rattle.group_rules.specs.Watch.{Watch, no_watch, follow_all, watch}
 use Rattle.group_rules.specs.Events.{Did, Came, Enters, Founds, Hears, Life, Setup, Ticks, Took}
 
 pub record Watching : Type 0 where
@@ -43,12 +43,6 @@ last_count = 18446744073709551615
 -- a count that stands at its last value stays there
 abbrev pub capped : Watch → Watch
 capped w = record { silences = map {A = Silence} (λ x. record x { ticks = min x.ticks last_count }) w.silences; lost_for = min w.lost_for last_count }
-
--- ---- expulsion
-
--- this member is to offer a Remove of the other one
-abbrev pub is_due : Watching → Inc → List Inc → Bool
-is_due x i online = not (inc_eq i x.me) && (is_expel_due x.limits.expel x.watch i && leads_by_rank x.me x.watch online)
 
 -- ---- histories
 

@@ -29,11 +29,11 @@ fn silence_is_counted_in_own_ticks(rt: HostRuntime) -> Result<(), Fail> {
     assert!(rt;
         watch.suspects(first_start(3)) && !watch.suspects(first_start(2)) && !watch.suspects(me)
     );
-    assert!(rt; !watch.expel_due(first_start(3), &members));
+    assert!(rt; !watch.is_overdue(first_start(3)) && watch.leads(&members));
     watch.tick();
     watch.tick();
-    assert!(rt; watch.expel_due(first_start(3), &members) && !watch.expel_due(me, &members));
-    assert!(rt; !watch.expel_due(first_start(3), &[first_start(2), first_start(3)]));
+    assert!(rt; watch.is_overdue(first_start(3)) && !watch.is_overdue(first_start(2)));
+    assert!(rt; !watch.leads(&[first_start(2), me]) && watch.leads(&[first_start(3), me]));
     for _ in 0..3 {
         watch.tick();
     }

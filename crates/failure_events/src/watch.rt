@@ -1,8 +1,8 @@
 // The watch of a member.
 ghost use Rattle.std.specs.Prelude.{◌≡◌, IfOk, OnErr, OnOk};
 ghost use Rattle.gr_ids.specs.declared.memory.Memory.{Memory};
-ghost use Rattle.group_rules.specs.Watch.{follow, heard, is_lost, suspects, ticked, unfollow};
-ghost use Rattle.failure_events.specs.Watching.{capped, first_watch, followed, is_due};
+ghost use Rattle.group_rules.specs.Watch.{follow, heard, is_expel_due, is_lost, leads_by_rank, suspects, ticked, unfollow};
+ghost use Rattle.failure_events.specs.Watching.{capped, first_watch, followed};
 
 use crate::counting::{
     hear, is_majority_lost, is_suspected, leads, next_count, silence_of, tick_all,
@@ -92,16 +92,21 @@ impl Watch {
         is_suspected(self.me, &self.silences, inc)
     }
 
-    /// Whether this member is to offer a Remove of the other one: at a silence of 5 and `expel` ticks, where of these ONLINE
-    /// members, ascending, the least one that isn't suspected is this one
-    /// (`group_replication_member_expel_timeout`). Linear in the members, times those that are ONLINE.
-    pub fn expel_due(&self, inc: Inc, online: &[Inc]) -> bool
-        ensures { result ≡ is_due self.now inc online.now }
+    /// Whether it has been silent for so long that it is to be expelled: for 5 and `expel` ticks
+    /// (`group_replication_member_expel_timeout`). Linear in the members.
+    pub fn is_overdue(&self, inc: Inc) -> bool
+        ensures { result ≡ is_expel_due self.now.limits.expel self.now.watch inc }
     {
         let due = 5 + u64::from(self.limits.expel);
-        inc != self.me
-            && silence_of(&self.silences, inc) >= due
-            && leads(self.me, &self.silences, online)
+        silence_of(&self.silences, inc) >= due
+    }
+
+    /// Whether expulsions and campaigns are for this member: of these ONLINE members, ascending, it is the least one that isn't suspected.
+    /// Linear in the members, times those that are ONLINE.
+    pub fn leads(&self, online: &[Inc]) -> bool
+        ensures { result ≡ leads_by_rank self.now.me self.now.watch online.now }
+    {
+        leads(self.me, &self.silences, online)
     }
 
     /// Whether fewer than floor(n/2)+1 of n members, itself included, aren't suspected. Linear in the members.

@@ -4,6 +4,9 @@ pub mod Ended
 pub mod Begun
 pub mod Called
 pub mod Answered
+pub mod Sending
+pub mod Beside
+pub mod Asked
 pub mod Pushed
 pub mod Told
 pub mod Replies
@@ -16,3 +19,7 @@ pub mod Causes
 pub mod Taken
 pub mod Worked
 pub mod Committed
+pub mod Welcomed
+pub mod CommitAsked
+pub mod Minded
+pub mod Offered

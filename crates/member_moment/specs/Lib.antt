@@ -10,3 +10,5 @@ pub mod Aside
 pub mod Ending
 pub mod Beginning
 pub mod Committing
+pub mod Telling
+pub mod Watching

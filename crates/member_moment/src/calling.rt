@@ -34,7 +34,7 @@ impl Moment {
             Request::Insert(item, row) => self.insert(session, item, row),
             Request::Update(item, row) => self.update(session, item, row),
             Request::Delete(item) => self.delete(session, item),
-            Request::Commit => Ok(()),
+            Request::Commit => self.commit(session),
             Request::Rollback => self.roll_back(session),
         }
     }

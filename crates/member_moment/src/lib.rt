@@ -2,17 +2,22 @@
 #![tactic(auto)]
 
 mod arriving;
+mod asking;
 mod beginning;
 mod calling;
 mod committing;
 mod ending;
-//mod joining;
+mod joining;
 mod moment;
+mod offering;
 mod ordering;
 mod owning;
 mod saying;
 mod taking;
 mod working;
+mod welcoming;
+mod telling;
+mod watching;
 
 pub use moment::{Left, Moment};
 pub use taking::Caused;

@@ -1,10 +1,7 @@
 -- Each thing, and what is told.
-use Rattle.std.proofs.Common.{refl, sym, ap, ◌∙◌, map}
+use Rattle.std.proofs.Common.{ap, ◌∙◌}
 use Rattle.gr_ids.specs.declared.names.Inc.{Inc}
-use Rattle.slot_values.specs.declared.value.Joiner.{Joiner}
-use Rattle.paxos_forms.specs.declared.welcome.WelcomeMember.{WelcomeMember}
-use Rattle.group_rules.specs.Watch.{Watch, heard, gives_up, is_expel_due, leads_by_rank, suspects, ticked, watch, watched}
-use Rattle.failure_events.specs.Watching.{capped}
+use Rattle.group_rules.specs.Watch.{Watch, gives_up, is_expel_due, leads_by_rank, suspects, watch}
 use Rattle.failure_events.proofs.Histories.{passes, same_expulsions, same_lead, same_losses, same_suspects, watches_entry, watches_founding, watches_message, watches_tick, watches_welcome}
 use Rattle.failure_events.proofs.watches_are_those_of_the_rules.Goals as goal
 

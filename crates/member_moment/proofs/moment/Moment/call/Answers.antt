@@ -15,3 +15,6 @@ returns-in-Delete c = rw c.in-Delete.is c.delete.ensures
 
 pub returns-in-Rollback : goal.returns-in-Rollback
 returns-in-Rollback c = rw c.in-Rollback.is c.roll_back.ensures
+
+pub returns-in-Commit : goal.returns-in-Commit
+returns-in-Commit c = rw c.in-Commit.is c.commit.ensures

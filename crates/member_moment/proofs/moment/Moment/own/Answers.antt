@@ -1,5 +1,5 @@
 -- The value is made, and the node proposes it.
-use Rattle.std.proofs.Common.{rules, refl, ap, sym, subst, ◌∙◌, suc}
+use Rattle.std.proofs.Common.{rules, refl, ap, sym, subst}
 use Rattle.std.proofs.lemmas.Result.{on_ok_weaker}
 use Rattle.group_rules.specs.Member.{own}
 use Rattle.member_tables.specs.Standing.{TablesFor}

@@ -1,0 +1,4 @@
+pub mod Results
+pub mod Pending
+pub mod Pointing
+pub mod Slotting

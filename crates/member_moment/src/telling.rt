@@ -1,0 +1,96 @@
+// What a member tells of itself in a step.
+ghost use Rattle.std.specs.Prelude.{◌≡◌, IfOk, map};
+ghost use Rattle.gr_ids.specs.declared.memory.Memory.{Memory};
+ghost use Rattle.group_rules.specs.Commit.{owes_prepared as owes};
+ghost use Rattle.group_rules.specs.Events.{Cert, Life};
+ghost use Rattle.group_rules.specs.Life.{executed as executed_by, is_error, is_offline, is_recovering, is_up, state as state_of};
+ghost use Rattle.group_rules.specs.Member.{Member};
+ghost use Rattle.group_rules.specs.Queue.{pending};
+ghost use Rattle.group_rules.specs.Taking.{takes_slots};
+ghost use Rattle.member_backlog.specs.Standing.{uncommitted_of};
+ghost use Rattle.member_parts.specs.Committing.{IsPending};
+ghost use Rattle.member_moment.specs.Standing.{Stands};
+ghost use Rattle.member_moment.specs.Telling.{is_arriving};
+
+use crate::moment::Moment;
+use gr_ids::{MemberState, Memory};
+use gtid_sets::GtidSet;
+use member_backlog::Uncommitted;
+
+impl Moment {
+    /// Whether it is in ERROR.
+    pub fn is_in_error(&self) -> bool
+        ensures { (base : Life) (a : Member) → Stands base a self.now → result ≡ is_error (state_of a.life) }
+    {
+        matches!(self.state(), MemberState::Error)
+    }
+
+    /// Whether it is ONLINE.
+    pub fn is_up(&self) -> bool
+        ensures { (base : Life) (a : Member) → Stands base a self.now → result ≡ is_up (state_of a.life) }
+    {
+        matches!(self.state(), MemberState::Online)
+    }
+
+    /// Whether it is RECOVERING.
+    pub fn is_recovering(&self) -> bool
+        ensures { (base : Life) (a : Member) → Stands base a self.now → result ≡ is_recovering (state_of a.life) }
+    {
+        matches!(self.state(), MemberState::Recovering)
+    }
+
+    /// Whether it is OFFLINE.
+    pub fn is_offline(&self) -> bool
+        ensures { (base : Life) (a : Member) → Stands base a self.now → result ≡ is_offline (state_of a.life) }
+    {
+        matches!(self.state(), MemberState::Offline)
+    }
+
+    /// Whether it takes slots: it is ONLINE, or RECOVERING with a Give.
+    pub fn takes_slots(&self) -> bool
+        ensures { (base : Life) (a : Member) → Stands base a self.now → result ≡ takes_slots a.life }
+    {
+        self.is_up() || self.is_recovering() && self.joining.has_give()
+    }
+
+    /// The certified transactions that wait to be committed, by ascending place. Linear in them.
+    pub fn waiting(&self) -> Result<Vec<Uncommitted>, Memory>
+        ensures { IfOk result (λ v. (base : Life) (a : Member) → Stands base a self.now → v.items ≡ map uncommitted_of (pending a.life)) }
+    {
+        Ok(
+            self.parts
+                .backlog()
+                .waiting()
+                .iter()
+                .copied()
+                .collect(self.alloc)?,
+        )
+    }
+
+    /// Whether it owes a Prepared entry for a transaction that waits. Linear in the queue.
+    pub fn owes_prepared(&self, one: &Uncommitted) -> Result<bool, Memory>
+        ensures { IfOk result (λ b. (base : Life) (a : Member) (c : Cert) → IsPending a.life c one.now → Stands base a self.now
+            → b ≡ owes a.setup a.life a.me.inc c) }
+    {
+        self.parts
+            .owes_prepared(self.alloc, self.me.inc, one)
+    }
+
+    /// Whether it is to make its Online entry: it is RECOVERING, has taken up a Give, made none, and nothing waits to be committed.
+    pub fn is_arriving(&self) -> bool
+        ensures { (base : Life) (a : Member) → Stands base a self.now → result ≡ is_arriving a }
+    {
+        self.is_recovering()
+            && self.joining.has_give()
+            && !self.own.has_arrived()
+            && self.parts.backlog().waiting().is_empty()
+    }
+
+    /// A copy of what it has executed. Linear in its runs.
+    pub fn copy_executed(&self) -> Result<GtidSet, Memory>
+        ensures { IfOk result (λ set. (base : Life) (a : Member) → Stands base a self.now → set ≡ executed_by a.life) }
+    {
+        let copy = self.executed().try_copy(self.alloc)?;
+        Ok(copy)
+    }
+}
