@@ -14,10 +14,10 @@ mod ordering;
 mod owning;
 mod saying;
 mod taking;
-mod working;
-mod welcoming;
 mod telling;
 mod watching;
+mod welcoming;
+mod working;
 
 pub use moment::{Left, Moment};
 pub use taking::Caused;
