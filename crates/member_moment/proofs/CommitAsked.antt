@@ -1,5 +1,6 @@
 -- A commit that is asked, and its transaction sent.
 use Rattle.std.proofs.Common.{◌≡◌, ◌++◌, ◌∷◌, ◌+◌, ℕ, Bool, true, false, Some, List, [], length, Ok, Err, refl, sym, subst, ap, ◌∙◌, arith}
+use Rattle.std.proofs.lemmas.List.{append-nil}
 use Rattle.std.specs.Prelude.{OnOk, Result, nat_le}
 use Rattle.gr_ids.specs.declared.memory.Memory.{Memory}
 use Rattle.gr_ids.specs.declared.names.Inc.{Inc}
@@ -33,9 +34,8 @@ use Rattle.member_truth.specs.Ranged.{IsSpelt}
 use Rattle.member_moment.specs.declared.moment.Moment.{Moment}
 use Rattle.member_moment.specs.Calling.{sends_body}
 use Rattle.member_moment.specs.Doing.{Does}
-use Rattle.member_moment.specs.Standing.{RestFor, Stands}
-use Rattle.member_moment.proofs.Beside.{rest_beside}
-use Rattle.member_moment.proofs.Called.{retabled}
+use Rattle.member_moment.specs.Standing.{RestFor}
+use Rattle.member_moment.proofs.Aside.{aside_of, other_tables, passed, rest_of}
 use Rattle.member_moment.proofs.Pushed.{rest_said}
 use Rattle.member_moment.proofs.Sending.{Keeps, SendsBody}
 
@@ -75,7 +75,9 @@ pub txn_is_sent : (x y z : Moment) (s : ℕ) (b : List ℕ) (n : ℕ) (w : Answe
 txn_is_sent x y z s b n w f keeps e g h same m = λ base a t k q r o.
     let j : ValueId = sent_as b a in
     let asks : RestFor base (push (AsksCommit s j) a) x =
-    rest_beside base a x x (AsksCommit s j) (record { mark = refl; own = refl; joining = refl; range = refl; ranged = tt; committed = refl }) refl (parts_asked a.setup a.me.inc a.life s j x.parts q r.parts) r in
+    rest_of base (push (AsksCommit s j) a) x
+    (passed base a x x refl (AsksCommit s j) (sym (append-nil x.marks.items)) (record { own = refl; range = refl; ranged = tt; committed = refl }) refl (aside_of base a x r))
+    (parts_asked a.setup a.me.inc a.life s j x.parts q r.parts) in
     let sends : RestFor base (sends_body t b (push (AsksCommit s j) a)) y = f base (push (AsksCommit s j) a) t k asks in
     let me : y.me ≡ a.me = ap (λ (v : Moment). v.me) keeps ∙ r.me in
     let named : Inc → ℕ → ValueId = λ o k. record { origin = o; number = k } in
@@ -84,7 +86,7 @@ txn_is_sent x y z s b n w f keeps e g h same m = λ base a t k q r o.
     let tables : y.tables ≡ x.tables = ap (λ (v : Moment). v.tables) keeps in (
       subst (λ c. RestFor base c z) (sym (is_sent s t b a))
           (rest_said base (sends_body t b (push (AsksCommit s j) a)) (record y { tables = z.tables }) (Answered s (Sent j)) z same mark
-          (record { parts = refl; own = refl; joining = refl; range = refl; ranged = tt; committed = refl }) (retabled base (sends_body t b (push (AsksCommit s j) a)) y z.tables sends)),
+          (record { parts = refl; own = refl; joining = refl; range = refl; ranged = tt; committed = refl }) (other_tables base (sends_body t b (push (AsksCommit s j) a)) y z.tables sends)),
       h a b id (subst (λ u. OnceSent s b a u) (sym tables) o),
     )
 
@@ -96,7 +98,7 @@ does_send x z t s b e once spelt f = λ base a p st.
     let q : Reply = reply_to x.tables.tables (session_in x.tables.sessions s) Commit in
     let is : call s Commit a ≡ send_txn s (txn_of s a) b a = is_reply a x.tables s Commit st.tables ∙ ap (λ w. done_by s Commit w q.deed a) e in
     let k = spelt a st.tables in
-    let both = f base a (txn_of s a) k.1.1 k.1.0 (retabled base a x t st.rest) (once a st.tables) in
+    let both = f base a (txn_of s a) k.1.1 k.1.0 (other_tables base a x t st.rest) (once a st.tables) in
     record { rest = subst (λ c. RestFor base c z) (sym is) both.0; tables = both.1 }
 
 pub does_commit : (x z : Moment) (t : MemberTables) (s : ℕ) (b : List ℕ) (o : Result (Unit {0}) Memory) → (reply_to x.tables.tables (session_in x.tables.sessions s) Commit).answer ≡ Ready b

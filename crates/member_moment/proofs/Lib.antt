@@ -5,7 +5,6 @@ pub mod Begun
 pub mod Called
 pub mod Answered
 pub mod Sending
-pub mod Beside
 pub mod Asked
 pub mod Pushed
 pub mod Told
@@ -23,3 +22,4 @@ pub mod Welcomed
 pub mod CommitAsked
 pub mod Minded
 pub mod Offered
+pub mod Opened

@@ -1,5 +1,5 @@
 -- The own values that bring a transaction.
-use Rattle.std.proofs.Common.{◌≡◌, ◌≤◌, ◌<◌, ◌+◌, ◌++◌, ◌∷◌, ℕ, suc, Bool, true, false, Some, None, List, [], length, refl, sym, subst, ap, ◌∙◌, arith, append_assoc, append-nil, length-append}
+use Rattle.std.proofs.Common.{◌≡◌, ◌≤◌, ◌<◌, ◌+◌, ◌++◌, ◌∷◌, ℕ, Bool, true, false, Some, None, List, [], length, refl, sym, subst, ap, ◌∙◌, arith, append_assoc, append-nil, length-append}
 use Rattle.std.specs.Prelude.{◌==◌, nat_le}
 use Rattle.std.proofs.lemmas.Bool.{lt-leb, le-leb}
 use Rattle.std.specs.List.{AllByRecursion}
@@ -11,14 +11,14 @@ use Rattle.slot_values.specs.declared.value.What.TheVariants.{Body as Says}
 use Rattle.slot_values.specs.Spelling.{IsWhat}
 use Rattle.txn_forms.specs.Bodies.{IsPart, body_bytes, part_bytes}
 use Rattle.txn_forms.specs.declared.body.Body.{Body}
-use Rattle.txn_forms.specs.declared.body.Body.TheVariants.{Txn as Writes, Part as PartOf}
+use Rattle.txn_forms.specs.declared.body.Body.TheVariants.{Txn as Writes, Part as PartOf, Sync}
 use Rattle.txn_forms.specs.declared.body.Part.{Part}
 use Rattle.txn_forms.specs.declared.body.Txn.{Txn}
 use Rattle.txn_forms.specs.Parts.{whole_bytes}
 use Rattle.group_rules.specs.Calls.{own_part}
 use Rattle.group_rules.specs.Parts.{cut}
 use Rattle.group_rules.specs.Events.{Life}
-use Rattle.group_rules.specs.Member.{Member, for_each, own}
+use Rattle.group_rules.specs.Member.{Member, for_each, own, own_body}
 use Rattle.member_truth.specs.Ranged.{IsSpelt}
 use Rattle.member_moment.specs.declared.moment.Moment.{Moment}
 use Rattle.member_moment.specs.Calling.{sends_body}
@@ -50,6 +50,14 @@ part_is_what p b h e =
 -- what an own value does to the rest, where it is neither a Prepared nor an Online entry
 abbrev pub Owns : What → Moment → Moment → Type 0
 Owns w x y = (base : Life) (a : Member) (holds : _) → IsSpelt holds → IsHeldAs None false holds → RestFor base a x → RestFor base (own w holds a) y
+
+-- a Sync
+pub sync_is_what : (b : List ℕ) → b ≡ body_bytes Sync → IsWhat 1 (Says b)
+sync_is_what b e = subst (λ (c : List ℕ). (1 ≤ length c) × (length c ≤ 4294967295)) (sym e) (omega (arith, length-number 1 3), omega (arith, length-number 1 3))
+
+pub sync_is_sent : (x y : Moment) (b : List ℕ) → b ≡ body_bytes Sync → Owns (Says b) x y → (base : Life) (a : Member) → RestFor base a x → RestFor base (own_body Sync a) y
+sync_is_sent x y b e f = λ base a r.
+    subst (λ (c : List ℕ). RestFor base (own (Says c) (Some Sync) a) y) e (f base a (Some Sync) (tt, tt) (record { acknowledges = refl; number = tt; comes = refl }) r)
 
 abbrev pub SendsPart : Part → Moment → Moment → Type 0
 SendsPart p x y = (base : Life) (a : Member) (t : Txn) → IsSpelt (Some (Writes t)) → RestFor base a x → RestFor base (own_part t p a) y

@@ -9,7 +9,7 @@ use Rattle.group_rules.specs.Calls.{own_part}
 use Rattle.group_rules.specs.Member.{Member, for_each, own}
 use Rattle.group_rules.specs.Parts.{cut}
 use Rattle.group_rules.specs.declared.requests.Request.{Request}
-use Rattle.group_rules.specs.declared.requests.Request.TheVariants.{Begin, Get, Insert, Update, Delete, Commit, Rollback}
+use Rattle.group_rules.specs.declared.requests.Request.TheVariants.{Begin, Get, Insert, Update, Delete}
 
 -- a key has the form of keys, and a begin waits for at least one tick
 abbrev pub IsRequest : Request → Type 0

@@ -9,6 +9,7 @@ mod committing;
 mod ending;
 mod joining;
 mod moment;
+mod opening;
 mod offering;
 mod ordering;
 mod owning;
