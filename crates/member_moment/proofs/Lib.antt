@@ -14,3 +14,5 @@ pub mod Spelt
 pub mod Came
 pub mod Minded
 pub mod Offered
+pub mod Asked
+pub mod Welcomed

@@ -6,7 +6,7 @@ mod beginning;
 mod calling;
 //mod committing;
 mod ending;
-//mod joining;
+mod joining;
 mod moment;
 mod offering;
 mod ordering;
@@ -15,6 +15,7 @@ mod saying;
 mod taking;
 mod telling;
 mod watching;
+mod welcoming;
 //mod working;
 
 pub use moment::{Left, Moment};

@@ -43,7 +43,7 @@ impl Moment {
     }
 }
 
-fn send_all(to: &mut Vec<Message>, more: Vec<Message>) -> Result<(), Memory>
+pub(crate) fn send_all(to: &mut Vec<Message>, more: Vec<Message>) -> Result<(), Memory>
     ensures { OnOk result (to.new.items ≡ to.old.items ++ more.items) }
 {
     for message in more {

@@ -29,7 +29,7 @@ use Rattle.member_ranges.specs.Ranges.{InRange, IsUntouched, IsWaiting, Shows, i
 use Rattle.member_ranges.proofs.Greeted.{told_incs}
 use Rattle.member_ranges.proofs.Passed.{moved}
 use Rattle.member_ranges.proofs.Views.{told_is_view}
-use Rattle.member_ranges.proofs.Steps.{Begins, Greets, reading_by, step_greets}
+use Rattle.member_ranges.proofs.Steps.{Begins, Greets, reading_by, step_greets, unread}
 
 told_seats : (ms : List WelcomeMember) → map {A = WelcomeMember} (λ m. m.joiner.inc) ms ≡ seated (map {A = WelcomeMember} {B = Seat} (λ m. record { joiner = m.joiner; state = m.state }) ms)
 told_seats [] = refl
@@ -147,4 +147,24 @@ greeted m w a e i k =
     elim (g.either) [
       | inl b ↦ begins w x a k n ms r g b (is_offline (state a.life) && (is_in_order w && is_for w a.me.inc n.horizon)) refl
       | inr q ↦ leaves w x a k n ms r g (none_test a.node.turns _ q.0) q.1 (is_offline (state a.life) && (is_in_order w && is_for w a.me.inc n.horizon)) refl
+    ]
+
+-- ---- when it begins
+
+some_reading : (o : Option Turns) (r : Reading) → reading_by o ≡ Some r → is_some o ≡ true
+some_reading None r h = absurd (cc h)
+some_reading (Some u) r h = refl
+
+-- an OFFLINE one begins exactly where its node has a log then
+pub begins_where : (m : Message) (w : Welcome) (a : Member) → m.wire ≡ Greet w → IsMessage m → InRange a → is_offline (state a.life) ≡ true
+    → is_some (at_node (Heard m) a).node.turns ≡ (is_in_order w && is_for w a.me.inc (at_node (Heard m) a).node.horizon)
+begins_where m w a e i k off = go (step_greets m w a.node e (subst (λ z. IsWire z) e i.wire) k.log)
+  where
+    go : Greets w a.node (node_step (Heard m) a.node).node → is_some (node_step (Heard m) a.node).node.turns ≡ (is_in_order w && is_for w a.me.inc (node_step (Heard m) a.node).node.horizon)
+    go g = let n : Node = (node_step (Heard m) a.node).node in elim (g.either) [
+      | inl b ↦ some_reading (node_step (Heard m) a.node).node.turns (resumed (told_in w)).reading b.reading
+          ∙ sym (ap (λ z. z && is_for w a.me.inc n.horizon) b.order ∙ for_me w (subst (λ z. IsWire z) e i.wire) a k n [] (step_in_range (Heard m) a.node i k.node) g b)
+      | inr q ↦
+          ap is_some (unread (node_step (Heard m) a.node).node.turns (q.1 ∙ ap reading_by (k.offline off)))
+          ∙ sym (ap (λ z. is_in_order w && is_for w z n.horizon) (sym k.me) ∙ (ap (λ z. is_in_order w && is_for w a.node.me z) g.horizon ∙ none_test a.node.turns (is_in_order w && is_for w a.node.me a.node.horizon) q.0 (k.offline off)))
     ]
