@@ -14,8 +14,12 @@ pub mod Uncommitted
 pub mod Owned
 pub mod Spelt
 pub mod Came
-pub mod Opened
+pub mod Causes
+pub mod Taken
+pub mod Worked
+pub mod Committed
 pub mod Welcomed
 pub mod CommitAsked
 pub mod Minded
 pub mod Offered
+pub mod Opened
