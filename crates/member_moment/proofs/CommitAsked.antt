@@ -76,7 +76,7 @@ txn_is_sent x y z s b n w f keeps e g h same m = λ base a t k q r o.
     let j : ValueId = sent_as b a in
     let asks : RestFor base (push (AsksCommit s j) a) x =
     rest_of base (push (AsksCommit s j) a) x
-    (passed base a x x refl (AsksCommit s j) (sym (append-nil x.marks.items)) (record { own = refl; range = refl; ranged = tt; committed = refl }) refl (aside_of base a x r))
+    (passed base a x x refl (AsksCommit s j) (sym (append-nil x.marks.items)) (record { own = refl; ranged = tt; committed = refl }) refl refl (aside_of base a x r))
     (parts_asked a.setup a.me.inc a.life s j x.parts q r.parts) in
     let sends : RestFor base (sends_body t b (push (AsksCommit s j) a)) y = f base (push (AsksCommit s j) a) t k asks in
     let me : y.me ≡ a.me = ap (λ (v : Moment). v.me) keeps ∙ r.me in

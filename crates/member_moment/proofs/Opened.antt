@@ -66,7 +66,7 @@ is_called base a x p s v n state last online c known held e f g free r =
     let parts : StandsFor a.setup a.me.inc (Called s v n ∷ a.life) p = subst (λ i. StandsFor a.setup i (Called s v n ∷ a.life) p) me (held a.setup x.me.inc a.life v are free mine) in
     let y : Moment = record x { parts = p } in
     record {
-      rest = rest_of base (push (Called s v n) a) y (passed base a x y refl (Called s v n) (sym (append-nil x.marks.items)) (record { own = refl; range = refl; ranged = tt; committed = refl }) refl (aside_of base a x r)) parts;
+      rest = rest_of base (push (Called s v n) a) y (passed base a x y refl (Called s v n) (sym (append-nil x.marks.items)) (record { own = refl; ranged = tt; committed = refl }) refl refl (aside_of base a x r)) parts;
       syncs = sync_told x.me.inc v a.life ∙ sym (ap (λ (d : Conditions). is_some d.sync) are);
     }
 
