@@ -15,6 +15,6 @@ pub mod Uncommitted
 pub mod Owned
 pub mod Spelt
 pub mod Came
-pub mod Asked
 pub mod Welcomed
 pub mod CommitAsked
+pub mod Restored

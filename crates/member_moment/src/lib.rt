@@ -11,6 +11,7 @@ mod joining;
 mod moment;
 mod ordering;
 mod owning;
+mod restoring;
 mod saying;
 mod taking;
 mod welcoming;
