@@ -23,3 +23,4 @@ pub mod CommitAsked
 pub mod Minded
 pub mod Offered
 pub mod Opened
+pub mod Restored

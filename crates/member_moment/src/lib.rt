@@ -13,6 +13,7 @@ mod offering;
 mod opening;
 mod ordering;
 mod owning;
+mod restoring;
 mod saying;
 mod taking;
 mod telling;
