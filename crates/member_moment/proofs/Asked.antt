@@ -1,5 +1,5 @@
 -- An ask, and its failure.
-use Rattle.std.proofs.Common.{◌≡◌, Bool, true, false, not, ◌&&◌, Option, option_to_list, List, [], ◌∷◌, ◌++◌, arith, map, refl, sym, subst, ap, ◌∙◌}
+use Rattle.std.proofs.Common.{◌≡◌, Bool, true, false, Option, option_to_list, ◌∷◌, ◌++◌, arith, map, refl, sym, subst, ap, ◌∙◌}
 use Rattle.std.specs.Prelude.{if◌then◌else◌, is_some}
 use Rattle.std.proofs.lemmas.Bool.{and_parts}
 use Rattle.std.proofs.lemmas.List.{append-nil}
@@ -24,19 +24,18 @@ use Rattle.member_parts.specs.Standing.{is_of_parts}
 use Rattle.member_parts.proofs.Passed.{passes as parts_pass}
 use Rattle.member_own.specs.Keeping.{is_of_own}
 use Rattle.member_own.proofs.Kept.{passes as own_passes}
-use Rattle.member_joining.specs.Asking.{ask_in, asked, failed, is_ask_due_by, may_ask, pending_in}
+use Rattle.member_joining.specs.Asking.{ask_in, asked, failed, may_ask, pending_in}
 use Rattle.member_joining.specs.Joins.{JoinsBy}
 use Rattle.member_joining.proofs.Joined.{asks, fails}
 use Rattle.member_joining.proofs.Told.{due_told, wire_told}
 use Rattle.member_ranges.specs.Ranges.{is_of_range}
 use Rattle.member_ranges.proofs.Passed.{passed as said}
 use Rattle.member_ranges.proofs.Sent.{ask_is}
-use Rattle.member_tables.specs.Standing.{TablesFor, is_of_tables}
+use Rattle.member_tables.specs.Standing.{is_of_tables}
 use Rattle.member_tables.proofs.Kept.{stands_on}
 use Rattle.member_moment.specs.declared.moment.Moment.{Moment}
-use Rattle.member_moment.specs.Standing.{Marked, RestFor, Stands}
-use Rattle.member_moment.specs.Doing.{Does, DoesIf}
-use Rattle.member_moment.specs.Joining.{asks_of}
+use Rattle.member_moment.specs.Standing.{Marked, Stands}
+use Rattle.member_moment.specs.Doing.{DoesIf}
 use Rattle.member_moment.proofs.Pushed.{marked}
 
 -- nothing but a mark is kept of it, beside the joining

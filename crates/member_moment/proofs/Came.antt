@@ -11,7 +11,7 @@ use Rattle.member_ranges.proofs.Passed.{passed as said}
 use Rattle.member_tables.proofs.Kept.{stands_on}
 use Rattle.member_moment.specs.declared.moment.Moment.{Moment}
 use Rattle.member_moment.specs.Arriving.{is_untold}
-use Rattle.member_moment.specs.Standing.{RestFor, Stands}
+use Rattle.member_moment.specs.Standing.{Stands}
 use Rattle.member_moment.proofs.Pushed.{unmarked}
 
 -- the parts and what is kept of the own ticks have it

@@ -1,5 +1,5 @@
 -- What the watch tells is what the rules read from the history.
-use Rattle.std.proofs.Common.{◌≡◌, ◌+◌, ◌≤◌, Bool, ◌&&◌, ◌||◌, not, List, [], ◌∷◌, map, refl, sym, subst, ap, ◌∙◌}
+use Rattle.std.proofs.Common.{◌≡◌, ◌+◌, ◌≤◌, ◌&&◌, ◌||◌, not, List, [], ◌∷◌, refl, sym, subst, ap, ◌∙◌}
 use Rattle.std.specs.List.{list_any}
 use Rattle.gr_ids.specs.Names.{has_inc, inc_eq}
 use Rattle.gr_ids.specs.declared.limits.Limits.{Limits}
@@ -13,7 +13,7 @@ use Rattle.group_rules.specs.Life.{view}
 use Rattle.group_rules.specs.Member.{Member}
 use Rattle.group_rules.specs.Steps.{needs_leader, removes_inc}
 use Rattle.group_rules.specs.View.{View, online_incs, seated}
-use Rattle.group_rules.specs.Watch.{Watch, is_expel_due, leads_by_rank, suspects}
+use Rattle.group_rules.specs.Watch.{is_expel_due, leads_by_rank, suspects}
 use Rattle.failure_events.specs.Watching.{Watching, last_count}
 use Rattle.failure_events.proofs.Histories.{same_expulsions, same_lead, same_suspects}
 use Rattle.member_moment.specs.declared.moment.Moment.{Moment}

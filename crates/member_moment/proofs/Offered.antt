@@ -1,5 +1,5 @@
 -- The Add of a joiner is sent to its contact.
-use Rattle.std.proofs.Common.{◌≡◌, sym, subst}
+use Rattle.std.proofs.Common.{sym, subst}
 use Rattle.gr_ids.specs.declared.names.Inc.{Inc}
 use Rattle.slot_values.specs.Spelling.{IsValue}
 use Rattle.slot_values.specs.declared.value.Joiner.{Joiner}

@@ -1,5 +1,5 @@
 -- Events of the node, and messages.
-use Rattle.std.proofs.Common.{◌≡◌, ◌≤◌, false, length, List, [], ◌∷◌, ◌++◌, refl, sym, subst, ap, ◌∙◌, inl, inr}
+use Rattle.std.proofs.Common.{◌≡◌, ◌≤◌, false, length, List, [], ◌∷◌, ◌++◌, sym, subst, ap, ◌∙◌, inl, inr}
 use Rattle.node_rules.specs.Lists.{In}
 use Rattle.node_rules.specs.Node.{message}
 use Rattle.node_rules.specs.Step.{node_step}

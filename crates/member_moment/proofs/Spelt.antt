@@ -2,8 +2,7 @@
 use Rattle.std.proofs.lemmas.List.{length-append}
 use Rattle.byte_forms.specs.Numbers.{number}
 use Rattle.byte_forms.proofs.NumberLemmas.{length-number}
-use Rattle.std.proofs.Common.{arith, ℕ, List, ◌++◌, ◌≡◌, ◌≤◌, Option, Some, None, length, refl, sym, subst}
-use Rattle.gr_ids.specs.declared.names.Gtid.{Gtid}
+use Rattle.std.proofs.Common.{arith, ℕ, List, ◌++◌, ◌≤◌, Some, length}
 use Rattle.txn_forms.specs.Bodies.{IsBody, body_bytes}
 use Rattle.txn_forms.specs.declared.body.Body.{Body}
 use Rattle.txn_forms.specs.declared.body.Body.TheVariants.{Txn as Writes, Prepared, Sync, Executed, Online as Arrives, Mode as Switches, Primary as Appoints, Part as PartOf}

@@ -1,5 +1,5 @@
 -- A Welcome: the node has it, and then the member, if it was OFFLINE and the node begins with it.
-use Rattle.std.proofs.Common.{◌≡◌, ◌≤◌, ◌+◌, ℕ, Bool, true, false, not, ◌&&◌, Option, Some, None, List, [], ◌∷◌, ◌++◌, arith, length, map, refl, sym, subst, ap, ◌∙◌}
+use Rattle.std.proofs.Common.{◌≡◌, ◌≤◌, Bool, true, false, ◌&&◌, Some, [], ◌∷◌, ◌++◌, arith, length, refl, sym, subst, ap, ◌∙◌}
 use Rattle.std.specs.Prelude.{is_some}
 use Rattle.std.proofs.lemmas.Bool.{false≢true}
 use Rattle.gr_ids.specs.declared.levels.MemberState.{MemberState}
@@ -15,7 +15,6 @@ use Rattle.paxos_forms.specs.declared.message.Wire.TheVariants.{Welcome as Greet
 use Rattle.paxos_forms.specs.declared.welcome.Welcome.{Welcome}
 use Rattle.node_rules.specs.declared.event.PaxosEvent.{PaxosEvent}
 use Rattle.node_rules.specs.declared.event.PaxosEvent.TheVariants.{Heard, Own, Campaign, Tick, Propose}
-use Rattle.node_rules.specs.Lists.{In}
 use Rattle.node_rules.specs.Node.{Node}
 use Rattle.node_rules.specs.Step.{node_step}
 use Rattle.node_rules.specs.Welcoming.{is_for, is_in_order}
@@ -24,7 +23,7 @@ use Rattle.paxos_ranges.proofs.Rows.{step_spelt}
 use Rattle.group_rules.specs.declared.marks.Cause.TheVariants.{Welcomed as WasWelcomed}
 use Rattle.group_rules.specs.Events.{Enters, Is, Life}
 use Rattle.group_rules.specs.Life.{executed, is_error, is_offline, state}
-use Rattle.group_rules.specs.Member.{Member, at_node, push}
+use Rattle.group_rules.specs.Member.{Member, at_node}
 use Rattle.group_rules.specs.Welcomes.{hear_welcome}
 use Rattle.group_rules.specs.declared.marks.Mark.TheVariants.{State as StateMark}
 use Rattle.member_parts.specs.Standing.{StandsFor}

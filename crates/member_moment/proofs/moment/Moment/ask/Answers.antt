@@ -3,7 +3,6 @@ use Rattle.std.proofs.Common.{◌≡◌, true, false, refl, sym, subst, ap, ◌�
 use Rattle.std.proofs.lemmas.Result.{on_ok_weaker}
 use Rattle.gr_ids.specs.Names.{inc_eq}
 use Rattle.slot_values.specs.declared.value.Joiner.{Joiner}
-use Rattle.paxos_forms.specs.declared.message.Wire.TheVariants.{Ask as Asks}
 use Rattle.group_rules.specs.declared.marks.Reply.TheVariants.{Asked}
 use Rattle.group_rules.specs.Events.{Replied}
 use Rattle.group_rules.specs.Member.{Member, push, send}

@@ -1,6 +1,5 @@
 -- The joining, the parts and the tables have the Welcome, and then the mark tells it.
-use Rattle.std.proofs.Common.{refl, ap, ◌∙◌, ◌∷◌}
-use Rattle.gr_ids.specs.declared.levels.MemberState.TheVariants.{Recovering}
+use Rattle.std.proofs.Common.{refl, ap, ◌∙◌}
 use Rattle.group_rules.specs.declared.marks.Cause.TheVariants.{Welcomed}
 use Rattle.paxos_forms.specs.declared.welcome.Welcome.{Welcome}
 use Rattle.group_rules.specs.Events.{Enters}

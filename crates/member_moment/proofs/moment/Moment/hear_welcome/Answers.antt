@@ -1,7 +1,6 @@
 -- The node has it; and then the member, if it was OFFLINE and the node begins with it.
-use Rattle.std.proofs.Common.{◌≡◌, ◌++◌, Some, None, false, true, refl, sym, ap, ◌∙◌}
+use Rattle.std.proofs.Common.{◌≡◌, ◌++◌, None, refl, sym, ap, ◌∙◌}
 use Rattle.std.specs.Option.{option_map}
-use Rattle.std.specs.Prelude.{is_some}
 use Rattle.std.proofs.lemmas.Result.{on_ok_weaker}
 use Rattle.group_rules.specs.Life.{is_offline}
 use Rattle.group_rules.specs.Member.{at_node}

@@ -1,5 +1,5 @@
 -- A body and its bytes.
-use Rattle.std.proofs.Common.{arith, ◌≤◌, ◌≡◌, Some, length, refl, sym, ap, subst, ◌∙◌}
+use Rattle.std.proofs.Common.{arith, ◌≤◌, Some, length, sym, subst}
 use Rattle.std.proofs.lemmas.Result.{on_ok_weaker}
 use Rattle.member_moment.specs.Doing.{Does}
 use Rattle.slot_values.specs.declared.value.What.TheVariants.{Body as Says}

@@ -1,4 +1,0 @@
-pub mod Results
-pub mod Pending
-pub mod Pointing
-pub mod Slotting
