@@ -1,3 +1,5 @@
 pub mod Splitting
 pub mod Counting
 pub mod Decimals
+pub mod Ranges
+pub mod MadeRanges

@@ -11,3 +11,4 @@ pub mod Looks
 pub mod Grammar
 pub mod Make
 pub mod Scenes
+pub mod Ranges

@@ -3,6 +3,7 @@ ghost use Rattle.std.specs.Prelude.{◌≡◌, ◌≤◌, IfOk, Some, None, Err}
 ghost use Rattle.script_text.specs.declared.line.LineFault.TheVariants.{BadLine};
 ghost use Rattle.script_text.specs.Words.{words_of};
 ghost use Rattle.script_text.specs.Grammar.{call_of, line_by, line_of, step_of};
+ghost use Rattle.script_text.specs.Ranges.{IsInRange};
 
 use crate::founding::read_setting;
 use crate::line::{Line, LineFault};
@@ -78,6 +79,7 @@ pub fn parse_line(alloc: Global, line: &[u8], number: u64) -> Result<Line, LineF
     requires first { 1 ≤ number }
     requires last { number ≤ 1000000 }
     ensures line { IfOk result (λ read. line_of number line.now ≡ Some read) }
+    ensures range { IfOk result (λ read. IsInRange read) }
     ensures bad { result ≡ Err BadLine → line_of number line.now ≡ None }
 {
     match read_line(alloc, line, number) {

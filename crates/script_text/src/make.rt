@@ -1,5 +1,7 @@
 // Scripts that are made.
 ghost use Rattle.std.specs.Prelude.{◌≡◌, ◌≤◌, IfOk, string_bytes};
+ghost use Rattle.std.specs.List.{AllByRecursion};
+ghost use Rattle.script_text.specs.Ranges.{IsInRange};
 ghost use Rattle.script_text.specs.Make.{after_draw, draw, founding, key_of, line_with, lines_up_to, made, once_step, state_before};
 ghost use Rattle.script_text.specs.Make.{step_by, step_drawn, value_of};
 
@@ -149,7 +151,8 @@ fn numbered(number: u64, step: Step) -> Line
 #[tactic(auto, unfolding(crate::specs::Make::made))]
 pub fn make_script(alloc: Global, n: u32, from: u64) -> Result<Vec<Line>, Memory>
     requires { n ≤ 20000 }
-    ensures { IfOk result (λ lines. lines.items ≡ made n from) }
+    ensures lines { IfOk result (λ lines. lines.items ≡ made n from) }
+    ensures range { IfOk result (λ lines. AllByRecursion IsInRange lines.items) }
 {
     let mut lines = Vec::new(alloc);
     let founding = made_founding(alloc)?;
