@@ -2,3 +2,4 @@ pub mod Numerals
 pub mod Sets
 pub mod Limits
 pub mod Values
+pub mod Says

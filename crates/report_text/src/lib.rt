@@ -12,6 +12,7 @@ mod names;
 mod said;
 mod shown;
 mod shown_lines;
+mod summary;
 #[cfg(test)]
 mod tests;
 mod worded;
@@ -19,5 +20,7 @@ mod world_report;
 
 pub use fault::WorldFault;
 pub use faults::fault_text;
-pub use said::answer_text;
+pub use lines::line_text;
+pub use said::{answer_text, step_text};
+pub use summary::{Verdict, summary_text, verdict_of};
 pub use world_report::{MemberReport, WorldReport, report};

@@ -1,10 +1,10 @@
 // The output lines of what a step says.
-ghost use Rattle.std.specs.Prelude.{◌≡◌, ◌++◌, IfOk, OnOk, codes};
+ghost use Rattle.std.specs.Prelude.{◌≡◌, ◌++◌, IfOk, OnOk, codes, flat_map};
 ghost use Rattle.group_rules.specs.declared.said.Said.TheVariants.{Marked, Offline};
-ghost use Rattle.group_rules.specs.Texts.{after_inc, mark_text, said_texts};
+ghost use Rattle.group_rules.specs.Texts.{after_inc, mark_text, said_texts, texts_or_ok};
 ghost use Rattle.report_text.specs.Lines.{output_line, output_lines};
 
-use crate::lines::{begin_inc_line, begin_line, end_line};
+use crate::lines::{begin_inc_line, begin_line, end_line, line_text};
 use crate::looks::put_look;
 use crate::marks::put_mark;
 use crate::worded::put_gtid_after;
@@ -64,5 +64,28 @@ pub fn answer_text(alloc: Global, number: u64, said: &Said) -> Result<Blob, Memo
 {
     let mut text = Blob::from_vec(Vec::new(alloc));
     put_said(alloc, &mut text, number, said)?;
+    Ok(text)
+}
+
+/// The lines of all that is said.
+fn put_each(alloc: Global, to: &mut Blob, number: u64, said: &[Said]) -> Result<(), Memory>
+    ensures { OnOk result (to.new ≡ to.old ++ output_lines number (flat_map said_texts said.now)) }
+{
+    for one in said {
+        put_said(alloc, to, number, one)?;
+    }
+    Ok(())
+}
+
+/// The text of a step that is done, on the line with this number of a script: all that it says, or `ok` where it says nothing.
+/// Linear in what is said.
+pub fn step_text(alloc: Global, number: u64, said: &[Said]) -> Result<Blob, Memory>
+    ensures { IfOk result (λ text. text ≡ output_lines number (texts_or_ok (flat_map said_texts said.now))) }
+{
+    if said.is_empty() {
+        return line_text(alloc, number, b"ok");
+    }
+    let mut text = Blob::from_vec(Vec::new(alloc));
+    put_each(alloc, &mut text, number, said)?;
     Ok(text)
 }
