@@ -5,3 +5,4 @@ pub mod Exits
 pub mod Steps
 pub mod Players
 pub mod Makers
+pub mod Clap

@@ -1,9 +1,16 @@
 // The words of a command.
-ghost use Rattle.std.specs.Prelude.{◌≡◌, ◌≤◌, IfSome, ◌<◌, ◌^◌, true, SomeIff};
-ghost use Rattle.std.specs.Char.{is_ascii_digit};
-ghost use Rattle.std.specs.List.{list_all};
-ghost use Rattle.std.specs.Str.Parse.{digits_value};
-ghost use Rattle.script_run.specs.Commands.{InRange, command_of as command_in, is_numeral as numeral, make_of as made_of, number_to as number_up_to, texts_of};
+ghost use Rattle.std.specs.Prelude.{◌≡◌, Bool, ℕ, List, IfOk, IfSome, OnErr, Some, codes, is_some, true};
+ghost use Rattle.clap.specs.Words.{subcommand_rows_of};
+ghost use Rattle.script_run.specs.Commands.{InRange, command_of, make_of as made_of, texts_of};
+ghost use Rattle.script_run.specs.Parsing.{flag_in, flag_text, named, values_in};
+ghost use Rattle.script_run.specs.declared.command.Command.TheVariants.{Play};
+
+use crate::numeral::number_to;
+use crate::parsing::parse_words;
+use clap::ArgMatches;
+use clap::error::ErrorKind;
+use gr_ids::Memory;
+use std::alloc::Global;
 
 /// What the words ask for.
 #[derive(Clone, Copy, Debug, PartialEq, Eq)]
@@ -12,46 +19,6 @@ pub enum Command {
     Play { report: bool },
     /// To make a script of so many steps, at most 20,000, from a number, to play it and to summarize it.
     Make { steps: u32, from: u64 },
-}
-
-fn has_digits_alone(bytes: &[u8]) -> bool
-    ensures { result ≡ list_all is_ascii_digit bytes.now }
-{
-    bytes.iter().all(|b| b.is_ascii_digit())
-}
-
-/// 1 to 20 decimal digits.
-fn is_numeral(word: &str) -> bool
-    ensures { result ≡ numeral word.now }
-{
-    let bytes = word.as_bytes();
-    if bytes.is_empty() || bytes.len() > 20 {
-        return false;
-    }
-    has_digits_alone(bytes)
-}
-
-fn read_digits(word: &str) -> Option<u64>
-    requires { numeral word.now ≡ true }
-    ensures { SomeIff result (digits_value 10 word.now < 2 ^ 64) (digits_value 10 word.now) }
-{
-    word.parse::<u64>().ok()
-}
-
-/// The number that a word stands for, at most `most`.
-#[tactic(auto, unfolding(crate::specs::Commands::number_to))]
-fn number_to(word: &str, most: u64) -> Option<u64>
-    ensures number { result ≡ number_up_to most word.now }
-    ensures range { IfSome result (λ n. n ≤ most) }
-{
-    if !is_numeral(word) {
-        return None;
-    }
-    let number = read_digits(word)?;
-    if number > most {
-        return None;
-    }
-    Some(number)
 }
 
 /// The words behind `make`.
@@ -68,18 +35,53 @@ fn make_of(steps: &str, from: &str) -> Option<Command>
     })
 }
 
-/// The command that these words are, word for word.
+/// Whether the words are those of a command, word for word.
 #[tactic(auto, unfolding(crate::specs::Commands::command_of))]
-pub fn command_of(words: &[String]) -> Option<Command>
-    ensures command { result ≡ command_in (texts_of words.now) }
-    ensures range { IfSome result InRange }
+fn is_command(words: &[String]) -> bool
+    ensures { result ≡ is_some (command_of (texts_of words.now)) }
 {
     match words {
-        [play] if play.as_str() == "play" => Some(Command::Play { report: false }),
-        [play, report] if play.as_str() == "play" && report.as_str() == "--report" => {
-            Some(Command::Play { report: true })
+        [play] => play.as_str() == "play",
+        [play, report] => play.as_str() == "play" && report.as_str() == "--report",
+        [make, steps, from] => {
+            make.as_str() == "make" && make_of(steps.as_str(), from.as_str()).is_some()
         }
-        [make, steps, from] if make.as_str() == "make" => make_of(steps.as_str(), from.as_str()),
-        _ => None,
+        _ => false,
+    }
+}
+
+/// The command that `clap` has met.
+fn met_command(matches: &ArgMatches<'_>) -> Option<Command>
+    ensures play { (b : Bool) → named (subcommand_rows_of matches.now) ≡ Some (codes "play")
+        → flag_in (subcommand_rows_of matches.now) ≡ Some (Some (flag_text b)) → result ≡ Some (Play b) }
+    ensures make { (n from : List ℕ) → named (subcommand_rows_of matches.now) ≡ Some (codes "make")
+        → values_in (subcommand_rows_of matches.now) ≡ Some (Some n, Some from) → result ≡ made_of n from }
+    ensures range { IfSome result InRange }
+{
+    if let Some(play) = matches.subcommand_matches("play") {
+        return Some(Command::Play {
+            report: play.get_flag("report"),
+        });
+    }
+    let make = matches.subcommand_matches("make")?;
+    make_of(make.get_str("steps")?, make.get_str("from")?)
+}
+
+/// The command that the words are, if they are one. They have to be those of a command word for word, which takes no memory to see: `clap` would take more,
+/// as `play --`. It reads what such words say.
+pub fn read_command(alloc: Global, words: &[String]) -> Result<Option<Command>, Memory>
+    ensures command { IfOk result (λ c. c ≡ command_of (texts_of words.now)) }
+    ensures range { IfOk result (λ c. IfSome c InRange) }
+    ensures memory { OnErr result (is_some (command_of (texts_of words.now)) ≡ true) }
+{
+    if !is_command(words) {
+        return Ok(None);
+    }
+    match parse_words(alloc, words) {
+        Ok(matches) => Ok(met_command(&matches)),
+        Err(error) => match error.kind() {
+            ErrorKind::OutOfMemory => Err(Memory),
+            _ => unreachable!(),
+        },
     }
 }

@@ -8,6 +8,8 @@ mod line;
 mod line_text;
 mod made;
 mod make;
+mod numeral;
+mod parsing;
 mod placing;
 mod player;
 mod reader;

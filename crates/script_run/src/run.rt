@@ -2,7 +2,7 @@
 ghost use Rattle.std.specs.Prelude.{◌≡◌, ◌⊎◌, ◌↔◌, ℕ, Bool, List, Some};
 ghost use Rattle.std.specs.Io.KnownBytes.{append_known};
 ghost use Rattle.gr_io.specs.Causes.{Rose};
-ghost use Rattle.script_run.specs.Commands.{IsCommand, command_of as command_in, texts_of};
+ghost use Rattle.script_run.specs.Commands.{IsCommand, command_of, texts_of};
 ghost use Rattle.script_run.specs.declared.command.Command.TheVariants.{Play, Make};
 ghost use Rattle.script_run.specs.Making.{made_status, made_text};
 ghost use Rattle.script_run.specs.Play.{State, ending, status_of, text_of};
@@ -10,7 +10,7 @@ ghost use Rattle.script_run.specs.Run.{IsEnded, Concludes, Makes, Plays};
 ghost use Rattle.script_run.specs.Standing.{Stands};
 ghost use Rattle.script_run.specs.Statuses.{done, no_command, read_failed, write_failed, no_memory};
 
-use crate::command::{Command, command_of};
+use crate::command::{Command, read_command};
 use crate::front_line::{LineKind, ReadFault};
 use crate::limits::LINES_LIMIT;
 use crate::line::take_line;
@@ -18,6 +18,7 @@ use crate::make::make;
 use crate::player::Player;
 use crate::reader::LineReader;
 use crate::status::{DONE, NO_COMMAND, NO_MEMORY, PAST_LIMIT, READ_FAILED, Status, WRITE_FAILED};
+use gr_ids::Memory;
 use gr_io::{Sink, Source, put_all};
 use std::alloc::Global;
 
@@ -101,10 +102,10 @@ pub fn run_script<S: Source, K: Sink>(
 
     // What is read and written of a source that tells its script: the answers of one legal history of a group. After want of memory (6) what was written is a
     // beginning of the full text, and the bytes pulled and those left make up the script.
-    ensures played { (script : List ℕ) (report : Bool) → S.left source.old ≡ Some script → command_in (texts_of words.now) ≡ Some (Play report)
+    ensures played { (script : List ℕ) (report : Bool) → S.left source.old ≡ Some script → command_of (texts_of words.now) ≡ Some (Play report)
         → Plays report script (S.left source.new) (K.written sink.old) (K.written sink.new) result }
     // What is written of a script that is made.
-    ensures made { (n from : ℕ) → command_in (texts_of words.now) ≡ Some (Make n from)
+    ensures made { (n from : ℕ) → command_of (texts_of words.now) ≡ Some (Make n from)
         → (source.new ≡ source.old) × Makes n from (K.written sink.old) (K.written sink.new) result }
 
     // Each fault has its cause.
@@ -116,16 +117,17 @@ pub fn run_script<S: Source, K: Sink>(
     ensures known { IsEnded result ⊎ (result ≡ no_command) ⊎ (result ≡ read_failed) ⊎ (result ≡ write_failed) ⊎ (result ≡ no_memory) }
 
     // Where no count rises, the whole text is written, unless memory is refused.
-    ensures complete { (script : List ℕ) (report : Bool) → S.left source.old ≡ Some script → command_in (texts_of words.now) ≡ Some (Play report)
+    ensures complete { (script : List ℕ) (report : Bool) → S.left source.old ≡ Some script → command_of (texts_of words.now) ≡ Some (Play report)
         → ¬ (Rose (S.faults source.old) (S.faults source.new)) → ¬ (Rose (K.faults sink.old) (K.faults sink.new)) → ¬ (Rose (K.idle sink.old) (K.idle sink.new))
         → (result ≡ no_memory) ⊎ ((result ≡ status_of script) × (K.written sink.new ≡ append_known (K.written sink.old) (text_of report script))) }
-    ensures complete_made { (n from : ℕ) → command_in (texts_of words.now) ≡ Some (Make n from)
+    ensures complete_made { (n from : ℕ) → command_of (texts_of words.now) ≡ Some (Make n from)
         → ¬ (Rose (K.faults sink.old) (K.faults sink.new)) → ¬ (Rose (K.idle sink.old) (K.idle sink.new))
         → (result ≡ no_memory) ⊎ ((result ≡ made_status n from) × (K.written sink.new ≡ append_known (K.written sink.old) (made_text n from))) }
 {
-    match command_of(words) {
-        None => Status::new(NO_COMMAND),
-        Some(Command::Play { report }) => play(alloc, report, source, sink),
-        Some(Command::Make { steps, from }) => make(alloc, steps, from, sink),
+    match read_command(alloc, words) {
+        Ok(None) => Status::new(NO_COMMAND),
+        Ok(Some(Command::Play { report })) => play(alloc, report, source, sink),
+        Ok(Some(Command::Make { steps, from })) => make(alloc, steps, from, sink),
+        Err(Memory) => Status::new(NO_MEMORY),
     }
 }
