@@ -14,6 +14,8 @@ mod shown;
 mod shown_lines;
 mod summary;
 #[cfg(test)]
+mod summary_tests;
+#[cfg(test)]
 mod tests;
 mod worded;
 mod world_report;
