@@ -67,8 +67,8 @@ none_taken f x y t h base a st = let g = h base a st in (next_is true a (sym (t 
 
 pub some_taken : (c : Caused) (x y z w : Moment) → ((base : Life) (a : Member) → Stands base a x → true ≡ takes_slots a.life) → HasTaken (Some c) x y → DoesIf (MayCause c) (done_of c) y z → Does point z w → HasPassed pass_slot true x w
 some_taken c x y z w t h d p base a st =
-    let g = h base a st in
     let so : takes_slots a.life ≡ true = sym (t base a st) in
+    let g = h base a so st in
     let b : Member = takes_on g.0 a in (
       g.0,
       g.1,
@@ -77,7 +77,7 @@ some_taken c x y z w t h d p base a st =
           (let k1 : IsKept (point (done_of c b)) = subst (λ m. IsKept (point m)) g.3.rest k in
           let k2 : IsKept (done_of c b) = promised (points (done_of c b)) k1 in
           let k3 : IsKept b = promised (causes_grow c b) k2 in
-          let s1 : Stands base b y = g.3.stands k3 so in
+          let s1 : Stands base b y = g.3.stands k3 in
           let s2 : Stands base (done_of c b) z = d base b (takes_still g.0 g.0.kept (by_node take a) ∙ so, g.3.fits) k2 s1 in
           subst (λ m. Stands base (point m) w) (sym g.3.rest) (p base (done_of c b) k1 s2)),
     )
