@@ -1,5 +1,5 @@
-use crate::{Released, Standing, Waits};
-use gr_ids::{Gtid, Inc, Pos, Sequence, SessionId, ValueId};
+use crate::{AtCall, Released, Standing, Waits, conditions_now};
+use gr_ids::{Gtid, Inc, Level, MemberState, Pos, Sequence, SessionId, ValueId};
 use group_rules::{Conditions, Pending};
 use std::alloc::Global;
 use std::test::Fail;
@@ -44,13 +44,23 @@ fn conditions(alloc: Global) -> Conditions {
     }
 }
 
+// Those of a BEFORE begin, whose Sync is the fourth own value.
+fn before(alloc: Global) -> Result<Conditions, Fail> {
+    let known = AtCall {
+        state: MemberState::Online,
+        last: 3,
+        after: Sequence::new(alloc),
+        elected: None,
+        online: None,
+    };
+    Ok(conditions_now(alloc, sync(4).origin, Level::Before, known)?)
+}
+
 #[test]
 fn begins_wait_for_their_conditions(rt: HostRuntime) -> Result<(), Fail> {
     let alloc = rt.alloc();
     let mut waits = Waits::new(alloc);
-    let mut before = conditions(alloc);
-    before.sync = Some(sync(4));
-    waits.hold(SessionId(2), before, 3)?;
+    waits.hold(SessionId(2), before(alloc)?, 3)?;
     let mut primary = conditions(alloc);
     primary.elected = Some(Pos(2));
     waits.hold(SessionId(1), primary, 2)?;

@@ -9,6 +9,8 @@ use Rattle.donor_recovery.specs.declared.at_add.AtAdd.{AtAdd}
 use Rattle.donor_recovery.specs.declared.at_add.Begin.{Begin}
 use Rattle.donor_recovery.specs.declared.recovery.AskFault.{AskFault}
 use Rattle.donor_recovery.specs.declared.recovery.AskFault.TheVariants.{NoAskDue, Memory as NoRoomToAsk}
+use Rattle.donor_recovery.specs.declared.recovery.RecoveryFault.{RecoveryFault}
+use Rattle.donor_recovery.specs.declared.recovery.RecoveryFault.TheVariants.{NoAskPending, NoDonor}
 use Rattle.donor_recovery.specs.declared.recovery.TakeFault.{TakeFault}
 use Rattle.donor_recovery.specs.declared.recovery.TakeFault.TheVariants.{ExtraTransactions, Memory as NoRoomToTake}
 
@@ -46,6 +48,11 @@ fails r = record r { pending = None; failures = suc r.failures }
 -- the tenth failure is the last one
 abbrev pub is_last : Asking → Bool
 is_last r = nat_le 10 (suc r.failures)
+
+-- why a failure isn't followed by another ask: no ask is pending, or the tenth has failed
+abbrev pub IsFailure : Asking → RecoveryFault → Type 0
+IsFailure r NoAskPending = is_some r.pending ≡ false
+IsFailure r (NoDonor n) = (n ≡ 10) × (is_some r.pending ≡ true) × (is_last r ≡ true)
 
 -- ---- a Give
 

@@ -1,8 +1,8 @@
 // How a joiner asks, and what it begins with.
-ghost use Rattle.std.specs.Prelude.{◌≡◌, ◌↔◌, [], false, Err, if◌then◌else◌, IfErr, IfOk, IsSome, is_some, None, OnErr, OnOk, true};
+ghost use Rattle.std.specs.Prelude.{◌≡◌, [], false, if◌then◌else◌, IfErr, IfOk, IsSome, is_some, None, OnErr, OnOk, true};
 ghost use Rattle.donor_recovery.specs.declared.recovery.AskFault.TheVariants.{Memory as NoRoomToAsk};
 ghost use Rattle.donor_recovery.specs.declared.recovery.TakeFault.TheVariants.{Memory as NoRoomToTake};
-ghost use Rattle.donor_recovery.specs.Asking.{IsAskFault, IsTakeFault, ask_of, asks, begin_of, extra, fails, is_due, is_last, not_asked, with_give};
+ghost use Rattle.donor_recovery.specs.Asking.{IsAskFault, IsFailure, IsTakeFault, ask_of, asks, begin_of, extra, fails, is_due, is_last, not_asked, with_give};
 
 use crate::at_add::{AtAdd, Begin};
 use gr_ids::{Inc, Memory, Pos};
@@ -128,8 +128,8 @@ impl Recovery {
 
     /// The pending ask has failed. Refused where none is pending; the tenth failure is counted, and named. Takes no memory.
     pub fn failed(&mut self) -> Result<(), RecoveryFault>
-        ensures none_pending { (result ≡ Err RecoveryFault.NoAskPending) ↔ (is_some self.old.pending ≡ false) }
-        ensures no_donor { (result ≡ Err (RecoveryFault.NoDonor 10)) ↔ ((is_some self.old.pending ≡ true) × (is_last self.old ≡ true)) }
+        ensures ok { OnOk result ((is_some self.old.pending ≡ true) × (is_last self.old ≡ false)) }
+        ensures fault { IfErr result (IsFailure self.old) }
         ensures after { self.new ≡ (if is_some self.old.pending then fails self.old else self.old) }
     {
         if self.pending.is_none() {

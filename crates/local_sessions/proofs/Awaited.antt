@@ -130,7 +130,7 @@ parts : (n : ℕ) (t : Txn) (ps : List Part) (m : Member) → Below n m.life →
 parts n t [] m o = o
 parts n t (p ∷ ps) m o = parts n t ps (own_part t p m) (owned n (Says (body_bytes (PartOf p))) (Some (elim (p.index == p.count) [ true ↦ Writes t | false ↦ PartOf p ])) m o)
 
-last_part : (t : Txn) (ps : List Part) (m : Member) → last_made (for_each (own_part t) ps m).life ≡ last_made m.life + length ps
+pub last_part : (t : Txn) (ps : List Part) (m : Member) → last_made (for_each (own_part t) ps m).life ≡ last_made m.life + length ps
 last_part t [] m = omega arith
 last_part t (p ∷ ps) m = last_part t ps (own_part t p m) ∙ more (last_made m.life) (length ps)
   where

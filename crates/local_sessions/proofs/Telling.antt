@@ -37,7 +37,7 @@ use Rattle.local_sessions.specs.Standing.{Active, Asked, Asking, Holding, Sessio
 use Rattle.local_sessions.specs.Following.{LeftActive, StandFor, TablesOf, is_left, stage_in}
 use Rattle.local_sessions.proofs.Calling.{acts}
 use Rattle.local_sessions.proofs.Replying.{txn_sent}
-use Rattle.local_sessions.specs.Telling.{Fits, ends_by, ends_commit, is_begin, is_held_answer, is_last}
+use Rattle.local_sessions.specs.Telling.{Fits, ends_by, ends_commit, is_begin, is_last}
 
 -- the answer fits what is done besides, by this test for last answers
 abbrev FitsIn : (Answer → Bool) → Reply → Type 0
@@ -128,14 +128,14 @@ commit_fits at o = unless_fits ends_commit (record { busy = refl; none = refl; l
 
 -- ---- begins
 
-free_fits : (at : Tables) (v : Level) (w : Answer) → (begin_free at v).answer ≡ Said w → is_held_answer w ≡ false → Fits (is_last w) w (begin_free at v).deed
+free_fits : (at : Tables) (v : Level) (w : Answer) → (begin_free at v).answer ≡ Said w → (w ≡ Held → ⊥) → Fits (is_last w) w (begin_free at v).deed
 free_fits at v w = go (wants_online v && not (is_up at.state)) refl
   where
-    go : (b : Bool) → (wants_online v && not (is_up at.state)) ≡ b → (begin_free at v).answer ≡ Said w → is_held_answer w ≡ false → Fits (is_last w) w (begin_free at v).deed
+    go : (b : Bool) → (wants_online v && not (is_up at.state)) ≡ b → (begin_free at v).answer ≡ Said w → (w ≡ Held → ⊥) → Fits (is_last w) w (begin_free at v).deed
     go true e = rw (begin_free, e) (λ h n. stays_fit is_last (NotOnline at.state) refl w h)
-    go false e = rw (begin_free, e) (λ h n. absurd (let k : Held ≡ w = cc in let z : true ≡ false = ap is_held_answer k ∙ n in cc))
+    go false e = rw (begin_free, e) (λ h n. absurd (let k : Held ≡ w = cc in n (sym k)))
 
-begin_fits : (at : Tables) (v : Level) (o : Option Session) (w : Answer) → (begin at v o).answer ≡ Said w → is_held_answer w ≡ false → Fits (is_last w) w (begin at v o).deed
+begin_fits : (at : Tables) (v : Level) (o : Option Session) (w : Answer) → (begin at v o).answer ≡ Said w → (w ≡ Held → ⊥) → Fits (is_last w) w (begin at v o).deed
 begin_fits at v None w e n = free_fits at v w e n
 begin_fits at v (Some x) w e n = go x.stage w e
   where
@@ -177,7 +177,7 @@ tells at o (Delete i) w b e = statement_fits at (record { item = i; what = Delet
 tells at o Commit w b e = commit_fits at o w e
 tells at o Rollback w b e = rollback_fits o w e
 
-pub tells_begun : (at : Tables) (o : Option Session) (v : Level) (n : ℕ) (w : Answer) → is_held_answer w ≡ false → (reply_to at o (Begin v n)).answer ≡ Said w
+pub tells_begun : (at : Tables) (o : Option Session) (v : Level) (n : ℕ) (w : Answer) → (w ≡ Held → ⊥) → (reply_to at o (Begin v n)).answer ≡ Said w
     → Fits (is_last w) w (reply_to at o (Begin v n)).deed
 tells_begun at o v n w h e = begin_fits at v o w e h
 

@@ -1,7 +1,7 @@
 -- What an answer tells of what its call did besides.
 use Rattle.std.specs.Prelude.{◌≡◌, Bool, true, false}
 use Rattle.group_rules.specs.declared.answers.Answer.{Answer}
-use Rattle.group_rules.specs.declared.answers.Answer.TheVariants.{Busy, Changed as IsChanged, Held, Killed, MemberLeft, NoTransaction, RolledBack}
+use Rattle.group_rules.specs.declared.answers.Answer.TheVariants.{Busy, Changed as IsChanged, Killed, MemberLeft, NoTransaction, RolledBack}
 use Rattle.group_rules.specs.declared.requests.Request.{Request}
 use Rattle.group_rules.specs.declared.requests.Request.TheVariants.{Begin, Commit}
 use Rattle.local_sessions.specs.Replies.{Asks, Deed, Ends, Holds, Nothing, Writing}
@@ -18,11 +18,6 @@ abbrev pub ends_commit : Answer → Bool
 ends_commit Busy = false
 ends_commit NoTransaction = false
 ends_commit x = true
-
--- the begin waits
-abbrev pub is_held_answer : Answer → Bool
-is_held_answer Held = true
-is_held_answer x = false
 
 abbrev pub is_begin : Request → Bool
 is_begin (Begin v w) = true

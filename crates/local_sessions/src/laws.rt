@@ -35,7 +35,7 @@ ghost use Rattle.local_sessions.specs.Replies.{Asks, Does, Ends, Holds, Reply as
 ghost use Rattle.local_sessions.specs.Others.{answer_of, answers_left, asking, killed_by, left, sessions_left, unless_killed, without_told};
 ghost use Rattle.local_sessions.specs.Following.{AsksOnce, LeftActive, LocksOf, StandFor, TablesOf, asks_as, does_place, is_free, touches, done_places, place_of, rise};
 ghost use Rattle.local_sessions.specs.Committing.{IsSpeltIn};
-ghost use Rattle.local_sessions.specs.Telling.{Fits, ends_by, is_begin, is_held_answer, is_last};
+ghost use Rattle.local_sessions.specs.Telling.{Fits, ends_by, is_begin, is_last};
 ghost use Rattle.local_sessions.specs.Acting.{TakenOf, after_reply, reply_to, sent_as, tell, told_to};
 
 /// Where the sessions and the tables stand for a history, and what was left is active, the reply to each call is what the rules of the group give.
@@ -49,7 +49,7 @@ pub fn replies_are_those_of_the_rules()
 pub fn answers_tell_what_is_done()
     ensures called { (xs : List Session) (at : AnyTables) (s : ℕ) (r : Request) (w : AnyAnswer) → is_begin r ≡ false → (reply_to at (session_in xs s) r).answer ≡ Said w
         → Fits (ends_by r w) w (reply_to at (session_in xs s) r).deed }
-    ensures begun { (xs : List Session) (at : AnyTables) (s : ℕ) (v : Level) (n : ℕ) (w : AnyAnswer) → is_held_answer w ≡ false
+    ensures begun { (xs : List Session) (at : AnyTables) (s : ℕ) (v : Level) (n : ℕ) (w : AnyAnswer) → (w ≡ Held → ⊥)
         → (reply_to at (session_in xs s) (Begin v n)).answer ≡ Said w → Fits (is_last w) w (reply_to at (session_in xs s) (Begin v n)).deed }
     ensures held { (xs : List Session) (at : AnyTables) (l : Life) (s : ℕ) (v : Level) (n : ℕ) → StandFor xs l
         → (reply_to at (session_in xs s) (Begin v n)).answer ≡ Said Held

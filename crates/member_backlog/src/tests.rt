@@ -21,7 +21,7 @@ fn certified(place: u64) -> Uncommitted {
             source,
             number: place,
         },
-        after: false,
+        after: place == 3,
     }
 }
 
@@ -43,6 +43,21 @@ fn what_is_committed_waits_no_more(rt: HostRuntime) -> Result<(), Fail> {
         .collect(alloc)?;
     assert_eq!(rt; places.as_slice(), [Pos(1), Pos(3)].as_slice());
     assert_eq!(rt; backlog.pending(alloc)?.as_slice().len(), 2);
+    let other = Inc {
+        server: 2,
+        start: 1,
+    };
+    assert_eq!(rt;
+        backlog
+            .after_below(alloc, other, Some(Pos(3)))?
+            .as_slice()
+            .len(),
+        0
+    );
+    assert_eq!(rt;
+        backlog.after_below(alloc, other, None)?.as_slice().len(),
+        1
+    );
     assert!(rt; backlog.is_clear(Pos(1)) && !backlog.is_clear(Pos(2)));
     Ok(())
 }

@@ -10,30 +10,19 @@ use paxos_forms::{Ask, Give};
 use std::alloc::Global;
 use std::marker::Model;
 
-/// What the tenth failure comes to.
-const NO_DONOR: Result<(), RecoveryFault> = Err(RecoveryFault::NoDonor { tries: 10 });
-
 /// Where an incarnation stands on its way into the group: it asks for what it lacks from its Welcome on. A founder never asks.
 #[derive(Debug, Drop)]
 pub struct Joining {
     recovery: Option<Recovery>,
-    // The place of its Add; 0 before its Welcome.
-    place: Pos,
-    // Fewer asks failed than may fail.
-    has_tries: bool,
-    has_give: bool,
 }
 
 impl Model for Joining {
     ghost use Rattle.std.specs.Prelude.{Option};
     ghost use Rattle.donor_recovery.specs.Asking.{Asking};
-    ghost use Rattle.member_joining.specs.Inside.{IsKept};
 
     ghost Value = { Option Asking };
 
     ghost view = { λ j. j.recovery };
-
-    ghost invariant = { λ j. IsKept j.recovery j.place j.has_tries j.has_give };
 }
 
 impl Joining {
@@ -41,24 +30,14 @@ impl Joining {
     pub fn new() -> Joining
         ensures { result ≡ None }
     {
-        Joining {
-            recovery: None,
-            place: Pos(0),
-            has_tries: true,
-            has_give: false,
-        }
+        Joining { recovery: None }
     }
 
     /// It is welcomed, with this executed set; its Add has this place.
     pub fn enter(&mut self, executed: GtidSet, place: Pos)
         ensures { self.new ≡ welcomed executed place }
     {
-        *self = Joining {
-            recovery: Some(Recovery::new(executed, place)),
-            place,
-            has_tries: true,
-            has_give: false,
-        };
+        self.recovery = Some(Recovery::new(executed, place));
     }
 
     /// Whether a donor may be asked in this state.
@@ -72,7 +51,10 @@ impl Joining {
     fn may_ask(&self) -> bool
         ensures { result ≡ may_ask self.now }
     {
-        self.recovery.is_some() && self.pending().is_none() && !self.has_give && self.has_tries
+        match &self.recovery {
+            Some(recovery) => recovery.is_due(),
+            None => false,
+        }
     }
 
     /// The donor of the pending ask.
@@ -89,14 +71,27 @@ impl Joining {
     pub fn has_give(&self) -> bool
         ensures { result ≡ has_give_in self.now }
     {
-        self.has_give
+        match &self.recovery {
+            Some(recovery) => recovery.has_give(),
+            None => false,
+        }
     }
 
     /// Whether a Give from this incarnation, for this place, is what is asked for in this state.
     pub fn awaits(&self, state: MemberState, from: Inc, place: Pos) -> bool
         ensures { result ≡ awaits_by state from place self.now }
     {
-        state == MemberState::Recovering && self.pending() == Some(from) && place == self.place
+        state == MemberState::Recovering && self.pending() == Some(from) && place == self.place()
+    }
+
+    // The place of its Add; 0 before its Welcome.
+    fn place(&self) -> Pos
+        ensures { result ≡ place_in self.now }
+    {
+        match &self.recovery {
+            Some(recovery) => recovery.place(),
+            None => Pos(0),
+        }
     }
 
     /// Asks the donor. Refused where no donor may be asked. Linear in the runs of the executed set.
@@ -119,17 +114,10 @@ impl Joining {
         ensures fault { IfErr result (IsFailure self.old) }
         ensures after { self.new ≡ (if is_some (pending_in self.old) then failed self.old else self.old) }
     {
-        let Some(recovery) = &mut self.recovery else {
-            return Err(RecoveryFault::NoAskPending);
-        };
-        if recovery.pending().is_none() {
-            return Err(RecoveryFault::NoAskPending);
+        match &mut self.recovery {
+            Some(recovery) => recovery.failed(),
+            None => Err(RecoveryFault::NoAskPending),
         }
-        if recovery.failed() == NO_DONOR {
-            self.has_tries = false;
-            return NO_DONOR;
-        }
-        Ok(())
     }
 
     /// Takes up the Give that is awaited. Refused where the joiner has transactions that the group hasn't. Linear in the runs of its
@@ -143,11 +131,9 @@ impl Joining {
         ensures fault { IfErr result (IsNotTaken self.old give) }
         ensures err { OnErr result (self.new ≡ self.old) }
     {
-        let Some(recovery) = &mut self.recovery else {
-            unreachable!()
-        };
-        let begin = recovery.take(alloc, give)?;
-        self.has_give = true;
-        Ok(begin)
+        match &mut self.recovery {
+            Some(recovery) => recovery.take(alloc, give),
+            None => unreachable!(),
+        }
     }
 }

@@ -6,7 +6,7 @@ ghost use Rattle.member_joining.specs.Reading.{are_of_blocks, cert_of_given, cer
 
 use crate::given_txn::GivenTxn;
 use gr_ids::Memory;
-use paxos_forms::{Give, Given};
+use paxos_forms::{Give, Given, TryCopy};
 use std::alloc::Global;
 use txn_forms::{Body, BodyFault, decode};
 
@@ -33,24 +33,13 @@ fn read_one(alloc: Global, given: &Given) -> Result<Option<GivenTxn>, Memory>
 {
     match decode(alloc, given.body.as_slice()) {
         Ok(Body::Txn(txn)) => Ok(Some(GivenTxn {
-            given: copied(alloc, given)?,
+            given: given.try_copy(alloc)?,
             txn,
         })),
         Ok(_) => Ok(None),
         Err(BodyFault::Memory) => Err(Memory),
         Err(BodyFault::BadBody { at: _ }) => Ok(None),
     }
-}
-
-fn copied(alloc: Global, given: &Given) -> Result<Given, Memory>
-    ensures { IfOk result (λ copy. copy ≡ given.now) }
-{
-    Ok(Given {
-        place: given.place,
-        origin: given.origin,
-        gtid: given.gtid,
-        body: given.body.try_copy(alloc)?,
-    })
 }
 
 /// Whether a Give with these transactions, as they were read, can be: all of them were read, and no last number is above those of the

@@ -45,13 +45,16 @@ part_fits k c b h =
 -- all that are left
 parts_fit : (k c : ℕ) (b : List ℕ) → IsLeft k c (length b) → AllByRecursion IsPart (cut_from k c b)
 parts_fit zero c b h = tt
-parts_fit (suc k) c b h = (part_fits k c b h, parts_fit k c (drop part_size b) (record {
-  below = let x = h.below in omega arith;
-  two = h.two;
-  few = h.few;
-  enough = let x = h.enough in omega (arith, length-drop part_size b);
-  needed = let x = h.needed in let y = h.enough in omega (arith, length-drop part_size b);
-}))
+parts_fit (suc k) c b h = (
+  part_fits k c b h,
+  parts_fit k c (drop part_size b) (record {
+    below = let x = h.below in omega arith;
+    two = h.two;
+    few = h.few;
+    enough = let x = h.enough in omega (arith, length-drop part_size b);
+    needed = let x = h.needed in let y = h.enough in omega (arith, length-drop part_size b);
+  }),
+)
 
 pub cut_fits : (b : List ℕ) → 65536 < length b → length b ≤ 16777216 → AllByRecursion IsPart (cut b)
 cut_fits b low high = parts_fit _ _ b (record {

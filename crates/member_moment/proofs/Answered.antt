@@ -1,13 +1,10 @@
 -- An answer, and what is done besides.
-use Rattle.std.proofs.Common.{◌≡◌, ◌++◌, ◌∷◌, ℕ, Bool, true, false, List, [], refl, sym, subst, ap, ◌∙◌}
+use Rattle.std.proofs.Common.{◌≡◌, ◌++◌, ◌∷◌, ℕ, Bool, true, false, [], refl, ap, ◌∙◌}
 use Rattle.group_rules.specs.declared.answers.Answer.{Answer}
-use Rattle.group_rules.specs.declared.answers.Answer.TheVariants.{Changed as IsChanged}
-use Rattle.group_rules.specs.declared.marks.Mark.{Mark}
 use Rattle.group_rules.specs.declared.marks.Mark.TheVariants.{Answered as AnsweredMark}
 use Rattle.group_rules.specs.declared.requests.Request.{Request}
 use Rattle.group_rules.specs.Events.{Answered, Changed, Life}
 use Rattle.group_rules.specs.Member.{Member, last_answer}
-use Rattle.key_items.specs.declared.change.Change.{Change}
 use Rattle.local_sessions.specs.declared.commit_step.CommitStep.TheVariants.{Said}
 use Rattle.local_sessions.specs.Acting.{done_by}
 use Rattle.local_sessions.specs.Replies.{Asks, Deed, Ends, Holds, Nothing, Writing}
@@ -15,7 +12,7 @@ use Rattle.member_moment.specs.declared.moment.Moment.{Moment}
 use Rattle.local_sessions.specs.Telling.{Fits}
 use Rattle.member_moment.specs.Standing.{RestFor}
 use Rattle.member_moment.proofs.Called.{Answers}
-use Rattle.member_moment.proofs.Pushed.{IsSaid, rest_said}
+use Rattle.member_moment.proofs.Pushed.{rest_said}
 
 pub answers_last : (x y : Moment) (s : ℕ) (w : Answer) (b : Bool) → b ≡ true
     → ((base : Life) (a : Member) → RestFor base a x → RestFor base (last_answer s w a) y) → Answers s b w x y

@@ -18,7 +18,7 @@ use Rattle.member_own.specs.Keeping.{is_of_own}
 use Rattle.member_own.proofs.Kept.{passes as own_passes}
 use Rattle.member_joining.specs.Joins.{JoinsBy, is_of_joining}
 use Rattle.member_joining.proofs.Joined.{passes as joining_passes}
-use Rattle.member_ranges.specs.Ranges.{is_of_range}
+use Rattle.member_ranges.specs.Ranges.{InRange, is_of_range}
 use Rattle.member_ranges.proofs.Passed.{passed as said}
 use Rattle.member_moment.specs.declared.moment.Moment.{Moment}
 use Rattle.member_moment.specs.Aside.{AsideFor, ButParts}
@@ -61,13 +61,12 @@ rest_of base a x r p = record {
 -- nothing but a mark is kept of it, in what stands beside the parts, the tables and the joining
 pub record IsQuiet (d : Did) (a : Member) : Type 0 where
   pub own : is_of_own d ≡ false
-  pub range : is_of_range d ≡ false
   pub ranged : IsRangedDid d
   pub committed : committed_of (d ∷ a.life) (certs (d ∷ a.life)) ≡ committed_of a.life (certs a.life)
 
 module _ (base : Life) (a : Member) (x y : Moment) (e : y ≡ record x { parts = y.parts; tables = y.tables; marks = y.marks }) where
-  pub pushed : (d : Did) → y.marks.items ≡ x.marks.items ++ option_to_list (mark_of d) → IsQuiet d a → JoinsBy (d ∷ a.life) x.joining → AsideFor base a x → AsideFor base (push d a) y
-  pushed d m q j r = subst (λ z. AsideFor base (push d a) z) (sym e) (record {
+  pub pushed : (d : Did) → y.marks.items ≡ x.marks.items ++ option_to_list (mark_of d) → IsQuiet d a → InRange (push d a) → JoinsBy (d ∷ a.life) x.joining → AsideFor base a x → AsideFor base (push d a) y
+  pushed d m q g j r = subst (λ z. AsideFor base (push d a) z) (sym e) (record {
     me = r.me;
     contact = r.contact;
     limits = r.limits;
@@ -77,13 +76,13 @@ module _ (base : Life) (a : Member) (x y : Moment) (e : y ≡ record x { parts =
     committed = r.committed ∙ ap (map given_of) (sym q.committed);
     marks = subst (Marked base (d ∷ a.life)) (sym m) (marked base a.life x.marks.items d r.marks);
     sent = r.sent;
-    range = said d a q.range r.range;
+    range = g;
     sent_range = r.sent_range;
     ranged = (q.ranged, r.ranged);
   })
 
-  pub passed : (d : Did) → y.marks.items ≡ x.marks.items ++ option_to_list (mark_of d) → IsQuiet d a → is_of_joining d ≡ false → AsideFor base a x → AsideFor base (push d a) y
-  passed d m q j r = pushed d m q (joining_passes a.life d x.joining j r.joining) r
+  pub passed : (d : Did) → y.marks.items ≡ x.marks.items ++ option_to_list (mark_of d) → IsQuiet d a → is_of_range d ≡ false → is_of_joining d ≡ false → AsideFor base a x → AsideFor base (push d a) y
+  passed d m q g j r = pushed d m q (said d a g r.range) (joining_passes a.life d x.joining j r.joining) r
 
   -- other parts and tables
   pub same : y.marks.items ≡ x.marks.items → AsideFor base a x → AsideFor base a y
@@ -107,8 +106,8 @@ module _ (base : Life) (a : Member) (x y : Moment) (e : y ≡ record x { parts =
 module _ (base : Life) (a : Member) (x y : Moment) (e : y ≡ record x { parts = y.parts; tables = y.tables; marks = y.marks }) where
   pub answered_last : (s : ℕ) (v : Answer) → y.marks.items ≡ x.marks.items ++ AnsweredMark s v ∷ [] → AsideFor base a x → AsideFor base (last_answer s v a) y
   answered_last s v m r =
-      passed base (push (Answered s v) a) y y refl (Ends s) (sym (append-nil y.marks.items)) (record { own = refl; range = refl; ranged = tt; committed = refl }) refl
-      (passed base a x y e (Answered s v) m (record { own = refl; range = refl; ranged = tt; committed = refl }) refl r)
+      passed base (push (Answered s v) a) y y refl (Ends s) (sym (append-nil y.marks.items)) (record { own = refl; ranged = tt; committed = refl }) refl refl
+      (passed base a x y e (Answered s v) m (record { own = refl; ranged = tt; committed = refl }) refl refl r)
 
 module _ (base : Life) (a : Member) (x : Moment) where
   pub other_tables : (t : MemberTables) → RestFor base a x → RestFor base a (record x { tables = t })

@@ -1,12 +1,12 @@
 -- Parts of a step, one after another.
-use Rattle.std.proofs.Common.{◌≡◌, Result, Ok, Err, OnOk, ℕ, Bool, true, false, List, [], ◌∷◌, ◌++◌, refl, sym, subst, ap, ◌∙◌}
+use Rattle.std.proofs.Common.{◌≡◌, Result, Ok, Err, OnOk, Bool, true, false, List, [], ◌∷◌, ◌++◌, refl, sym, subst, ap}
 use Rattle.group_rules.specs.Events.{Life}
 use Rattle.group_rules.specs.Member.{Member, for_each}
 use Rattle.member_truth.specs.Growing.{Grows}
 use Rattle.member_truth.proofs.Grown.{promised}
 use Rattle.member_moment.specs.declared.moment.Moment.{Moment}
 use Rattle.member_moment.specs.Standing.{Stands}
-use Rattle.member_moment.specs.Doing.{Does, DoesIf, IsKept}
+use Rattle.member_moment.specs.Doing.{Does, IsKept}
 
 -- nothing is done
 pub does_nothing : (x : Moment) → Does (λ a. a) x x

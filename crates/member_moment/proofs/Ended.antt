@@ -8,17 +8,15 @@ use Rattle.std.proofs.lemmas.List.Filters.{length-filter_both}
 use Rattle.gr_ids.specs.Names.{id_eq}
 use Rattle.gr_ids.specs.declared.names.ValueId.{ValueId}
 use Rattle.group_rules.specs.declared.answers.Answer.TheVariants.{HoldTimeout}
-use Rattle.gr_ids.specs.declared.names.Inc.{Inc}
-use Rattle.group_rules.specs.Events.{Answered as AnsweredIn, Cert, Ends, Life, Setup}
+use Rattle.group_rules.specs.Events.{Cert, Life}
 use Rattle.group_rules.specs.Member.{Member, for_each, last_answer, waiting_as}
 use Rattle.group_rules.specs.Queue.{pending}
 use Rattle.group_rules.specs.Sessions.{is_holding, phase, sessions}
 use Rattle.group_rules.specs.Steps.{time_out}
-use Rattle.consistency_waits.specs.Following.{HeldOf, times_out}
+use Rattle.consistency_waits.specs.Following.{HeldOf, all_time_out}
 use Rattle.consistency_waits.specs.Holding.{is_over, without}
-use Rattle.consistency_waits.proofs.Chosen.{first_chosen, none_chosen}
 use Rattle.consistency_waits.proofs.Histories.{held_told}
-use Rattle.consistency_waits.proofs.Timeouts.{all_end, answered_and_ended}
+use Rattle.consistency_waits.proofs.Timeouts.{all_end}
 use Rattle.local_sessions.specs.Acting.{TakenOf, tell}
 use Rattle.local_sessions.specs.Others.{taken_as}
 use Rattle.local_sessions.specs.declared.told.Answered.{Answered}
@@ -26,8 +24,8 @@ use Rattle.local_sessions.specs.declared.told.TakenOwn.{TakenOwn}
 use Rattle.member_backlog.specs.Standing.{uncommitted_of}
 use Rattle.member_parts.specs.declared.parts.MemberParts.{MemberParts}
 use Rattle.member_moment.specs.declared.moment.Moment.{Moment}
+use Rattle.member_parts.specs.Ending.{IsTurn}
 use Rattle.member_parts.specs.Standing.{StandsFor}
-use Rattle.member_parts.proofs.Passed.{passes as parts_pass}
 use Rattle.member_moment.specs.Aside.{ButParts}
 use Rattle.member_moment.specs.Ending.{taken_of}
 use Rattle.member_moment.specs.Standing.{Stands}
@@ -63,7 +61,10 @@ taken_of_pending l = gtid_taken (pending l)
 pub record Timing (base : Life) (a : Member) (x : Moment) : Type 0 where
   pub now : Member
   pub stands : Stands base now x
-  pub rest : for_each time_out (sessions now.life) now ≡ for_each time_out (sessions a.life) a
+  pub rest : all_time_out x.parts.waits now ≡ for_each time_out (sessions a.life) a
+
+pub none_yet : (base : Life) (a : Member) (x : Moment) → Stands base a x → Timing base a x
+none_yet base a x st = record { now = a; stands = st; rest = sym (all_end a x.parts.waits st.rest.parts.waits) }
 
 or_true : (b : Bool) → (b || true) ≡ true
 or_true true = refl
@@ -99,24 +100,6 @@ module _ (x : MemberParts) (s : ℕ) (e : Some s ≡ option_map (λ h. h.session
           let one : s ≡ h.session = cc in
           subst (λ (t : ℕ). is_holding (phase a.life t) ≡ true) (sym one) (sym (held_told a.setup a.me.inc a.life x.waits h.session f) ∙ found (λ y. y.session) is_over x.waits h k)
 
-  -- once it has ended, the others are those that are left
-  pub one_ends : (a : Member) (w : ℕ) → Some w ≡ option_map (λ h. h.limit) (find is_over x.waits) → HeldOf a.setup a.me.inc a.life x.waits
-      → let b : Member = last_answer s (HoldTimeout w) a in for_each time_out (sessions b.life) b ≡ for_each time_out (sessions a.life) a
-  one_ends a w l f = go (find is_over x.waits) refl
-    where
-      go : (o : Option _) → find is_over x.waits ≡ o → let b : Member = last_answer s (HoldTimeout w) a in for_each time_out (sessions b.life) b ≡ for_each time_out (sessions a.life) a
-      go None k = let none : Some s ≡ None = rw k at e in cc
-      go (Some h) k =
-          let same : Some s ≡ Some h.session = rw k at e in
-          let like : Some w ≡ Some h.limit = rw k at l in
-          let one : s ≡ h.session = cc in
-          let two : w ≡ h.limit = cc in
-          let b : Member = last_answer h.session (HoldTimeout h.limit) a in
-          let ends : for_each time_out (sessions b.life) b ≡ for_each time_out (sessions a.life) a =
-          all_end b (without h.session x.waits) (answered_and_ended a.setup a.me.inc a.life x.waits h.session (HoldTimeout h.limit) f)
-          ∙ (ap (λ ks. times_out ks a) (sym (first_chosen is_over x.waits h f.up k)) ∙ sym (all_end a x.waits f)) in
-          rw (one, two) ends
-
   pub fewer_without : length (without s x.waits) < length x.waits
   fewer_without = go (find is_over x.waits) refl
     where
@@ -127,24 +110,16 @@ module _ (x : MemberParts) (s : ℕ) (e : Some s ≡ option_map (λ h. h.session
           let one : s ≡ h.session = cc in
           subst (λ (t : ℕ). length (without t x.waits) < length x.waits) (sym one) (fewer (λ y. y.session) h.session x.waits (found (λ y. y.session) is_over x.waits h k))
 
-pub none_ends : (x : MemberParts) (a : Member) → None ≡ option_map (λ h. h.session) (find is_over x.waits) → HeldOf a.setup a.me.inc a.life x.waits → for_each time_out (sessions a.life) a ≡ a
-none_ends x a e f = go (find is_over x.waits) refl
-  where
-    go : (o : Option _) → find is_over x.waits ≡ o → for_each time_out (sessions a.life) a ≡ a
-    go None k = all_end a x.waits f ∙ ap (λ ks. times_out ks a) (none_chosen is_over x.waits k)
-    go (Some h) k = let some : None ≡ Some h.session = rw k at e in cc
-
 -- one hold more has ended: the parts say so first, and then all the rest
-pub one_turn : (base : Life) (a : Member) (x y : Moment) (p : MemberParts) (s w : ℕ) → Some s ≡ option_map (λ h. h.session) (find is_over x.parts.waits) → Some w ≡ option_map (λ h. h.limit) (find is_over x.parts.waits)
-    → ((t : Setup) (me : Inc) (l : Life) → StandsFor t me l x.parts → StandsFor t me (Ends s ∷ l) p)
+pub one_turn : (base : Life) (a : Member) (x y : Moment) (p : MemberParts) (s w : ℕ) → Some s ≡ option_map (λ h. h.session) (find is_over x.parts.waits) → IsTurn x.parts p (Some (s, w))
     → ((k : Life) (b : Member) → is_holding (phase b.life s) ≡ true → ButParts k b (record x { parts = p }) → ButParts k (last_answer s (HoldTimeout w) b) y) → y.parts ≡ p
     → Timing base a x → Timing base a y
-one_turn base a x y p s w e l ends told same t =
-    let n : Member = t.now in
-    let b : Member = last_answer s (HoldTimeout w) n in
-    let parts : StandsFor b.setup b.me.inc b.life p = ends n.setup n.me.inc (AnsweredIn s (HoldTimeout w) ∷ n.life) (parts_pass n.setup n.me.inc n.life (AnsweredIn s (HoldTimeout w)) x.parts refl t.stands.rest.parts) in
+one_turn base a x y p s w e turn told same t =
+    let b : Member = last_answer s (HoldTimeout w) t.now in
     record {
       now = b;
-      stands = whole base b y (subst (λ (q : MemberParts). StandsFor b.setup b.me.inc b.life q) (sym same) parts) (told base n (over_is_held x.parts s e n t.stands.rest.parts.waits) (but_parts base n x p t.stands));
-      rest = one_ends x.parts s e n w l t.stands.rest.parts.waits ∙ t.rest;
+      stands =
+          whole base b y (subst (λ (q : MemberParts). StandsFor b.setup b.me.inc b.life q) (sym same) ((turn t.now).1 t.stands.rest.parts))
+          (told base t.now (over_is_held x.parts s e t.now t.stands.rest.parts.waits) (but_parts base t.now x p t.stands));
+      rest = ap (λ (q : MemberParts). all_time_out q.waits b) same ∙ (sym (turn t.now).0 ∙ t.rest);
     }

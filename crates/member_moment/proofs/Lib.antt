@@ -4,6 +4,8 @@ pub mod Ended
 pub mod Begun
 pub mod Called
 pub mod Answered
+pub mod Sending
+pub mod Asked
 pub mod Pushed
 pub mod Told
 pub mod Replies
@@ -12,7 +14,13 @@ pub mod Uncommitted
 pub mod Owned
 pub mod Spelt
 pub mod Came
+pub mod Causes
+pub mod Taken
+pub mod Worked
+pub mod Committed
+pub mod Welcomed
+pub mod CommitAsked
 pub mod Minded
 pub mod Offered
-pub mod Asked
-pub mod Welcomed
+pub mod Opened
+pub mod Restored

@@ -69,14 +69,14 @@ pub own_rest : (base : Life) (a : Member) (w : What) (holds : Option Body) (arri
     → y ≡ record x { own = y.own; parts = y.parts } → y.own ≡ with_value (suc x.own.made) arrives x.own → arrives ≡ is_arrival holds → IsSpelt holds
     → ((v : Value) → last_made a.life ≤ v.id.number → StandsFor a.setup a.me.inc a.life x.parts → StandsFor a.setup a.me.inc (Made v holds ∷ a.life) y.parts)
     → ((b : Member) → IsValue (record { id = record { origin = x.me.inc; number = n }; what = w }) → RestFor base b y
-      → RestFor base (at_node (Own (record { id = record { origin = x.me.inc; number = n }; what = w })) b) z)
+    → RestFor base (at_node (Own (record { id = record { origin = x.me.inc; number = n }; what = w })) b) z)
     → RestFor base a x → RestFor base (own w holds a) z
 own_rest base a w holds arrives n x y z e f what same o h spelt parts act r =
     let v : Value = record { id = record { origin = x.me.inc; number = n }; what = w } in
     let i : v.id ≡ record { origin = x.me.inc; number = suc x.own.made } = ap (λ k. record { origin = x.me.inc; number = k }) e in
     let id : v.id ≡ next_id a = made_id a x base v.id i r in
     subst (λ k. RestFor base (at_node (Own (record { id = k; what = w })) (push (Made (record { id = k; what = w }) holds) a)) z) id
-      (act (push (Made v holds) a) (made_is_value a x v base what i f r) (made_rest base a v holds arrives x y same e o h spelt (parts v) r))
+    (act (push (Made v holds) a) (made_is_value a x v base what i f r) (made_rest base a v holds arrives x y same e o h spelt (parts v) r))
 
 -- the tables keep nothing of it
 pub own_tables : (a : Member) (w : What) (holds : Option Body) (t : MemberTables) → TablesFor a t → TablesFor (own w holds a) t

@@ -1,5 +1,5 @@
 -- One thing more in a history, of which nothing is kept but a mark.
-use Rattle.std.proofs.Common.{◌≡◌, Bool, true, false, Option, Some, None, option_to_list, List, [], ◌∷◌, ◌++◌, append_assoc, map, reverse, refl, sym, subst, ap, ◌∙◌}
+use Rattle.std.proofs.Common.{◌≡◌, false, Option, Some, None, option_to_list, List, [], ◌∷◌, ◌++◌, map, reverse, refl, sym, subst, ap, ◌∙◌}
 use Rattle.std.proofs.lemmas.List.{append-nil, reverse-append}
 use Rattle.group_rules.specs.declared.marks.Mark.{Mark}
 use Rattle.group_rules.specs.Events.{Did, Life, mark_of, marks_of, with_mark}
@@ -21,7 +21,7 @@ use Rattle.member_joining.proofs.Joined.{passes as joining_passes}
 use Rattle.member_ranges.specs.Ranges.{is_of_range}
 use Rattle.member_ranges.proofs.Passed.{passed as said}
 use Rattle.member_moment.specs.declared.moment.Moment.{Moment}
-use Rattle.member_moment.specs.Standing.{Marked, RestFor, Stands}
+use Rattle.member_moment.specs.Standing.{Marked, RestFor}
 use Rattle.member_moment.specs.Doing.{Does}
 use Rattle.member_tables.specs.Standing.{TablesFor}
 

@@ -139,7 +139,7 @@ module _ (e : PaxosEvent) (w : Welcome) (h : welcome_in e ≡ Some w) (given : I
         let me : y.me.inc ≡ a.me.inc = ap (λ (m : Moment). m.me.inc) same ∙ ap (λ (j : Joiner). j.inc) r.me in
         let parts_before = subst (λ p. StandsFor a.setup a.me.inc a.life p) (sym (ap (λ (m : Moment). m.parts) same)) r.parts in
         let parts_entered = subst (λ i. StandsFor a.setup i (Enters w ∷ a.life) z.parts) me
-          (t.parts a.setup a.life (sym (ap (λ (m : Moment). m.limits) same ∙ r.limits)) no_certs (subst (λ i. StandsFor a.setup i a.life y.parts) (sym me) parts_before)) in
+        (t.parts a.setup a.life (sym (ap (λ (m : Moment). m.limits) same ∙ r.limits)) no_certs (subst (λ i. StandsFor a.setup i a.life y.parts) (sym me) parts_before)) in
         let joins : z.joining ≡ welcomed (executed a.life) w.place = t.joins ∙ (ap (λ s. welcomed s.tables.executed w.place) tables_before ∙ ap (λ s. welcomed s w.place) st.tables.tables.set) in
         let rest : RestFor base (enters_of w (at_node e a)) z = subst (λ m. RestFor base (enters_of w (at_node e a)) m) (sym o) (record {
           me = r.me;

@@ -1,5 +1,4 @@
 -- A part of a step that is done: whatever member the moment stood for, it stands for what the rules make of it.
-use Rattle.std.specs.Prelude.{ℕ}
 use Rattle.group_rules.specs.Events.{Life}
 use Rattle.group_rules.specs.Member.{Member}
 use Rattle.member_truth.specs.Growing.{IsPromised}

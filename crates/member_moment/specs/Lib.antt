@@ -9,5 +9,6 @@ pub mod Calling
 pub mod Aside
 pub mod Ending
 pub mod Beginning
+pub mod Committing
 pub mod Telling
 pub mod Watching

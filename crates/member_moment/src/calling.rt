@@ -29,12 +29,12 @@ impl Moment {
         ensures { OnOk result (Does (calls session request) self.old self.new) }
     {
         match request {
-            Request::Begin(_level, _limit) => Ok(()),
+            Request::Begin(level, limit) => self.open(session, level, limit),
             Request::Get(item) => self.get(session, item),
             Request::Insert(item, row) => self.insert(session, item, row),
             Request::Update(item, row) => self.update(session, item, row),
             Request::Delete(item) => self.delete(session, item),
-            Request::Commit => Ok(()),
+            Request::Commit => self.commit(session),
             Request::Rollback => self.roll_back(session),
         }
     }

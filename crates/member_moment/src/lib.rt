@@ -2,21 +2,24 @@
 #![tactic(auto)]
 
 mod arriving;
+mod asking;
 mod beginning;
 mod calling;
-//mod committing;
+mod committing;
 mod ending;
 mod joining;
 mod moment;
 mod offering;
+mod opening;
 mod ordering;
 mod owning;
+mod restoring;
 mod saying;
 mod taking;
 mod telling;
 mod watching;
 mod welcoming;
-//mod working;
+mod working;
 
 pub use moment::{Left, Moment};
 pub use taking::Caused;

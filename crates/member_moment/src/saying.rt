@@ -41,7 +41,8 @@ impl Moment {
 
     /// A donor's Give for this place came, with so many transactions.
     pub fn gave(&mut self, place: Pos, count: u64) -> Result<(), Memory>
-        ensures { OnOk result (Does (push (Gave place count)) self.old self.new) }
+        ensures others { OnOk result (self.new ≡ record self.old { marks = self.new.marks }) }
+        ensures does { OnOk result (Does (push (Gave place count)) self.old self.new) }
     {
         self.marks.push(Mark::Given(place, count))?;
         Ok(())

@@ -73,8 +73,7 @@ impl Moment {
         ensures { IfOk result (λ b. (base : Life) (a : Member) (c : Cert) → IsPending a.life c one.now → Stands base a self.now
             → b ≡ owes a.setup a.life a.me.inc c) }
     {
-        self.parts
-            .owes_prepared(self.alloc, self.me.inc, one)
+        self.parts.owes_prepared(self.alloc, self.me.inc, one)
     }
 
     /// Whether it is to make its Online entry: it is RECOVERING, has taken up a Give, made none, and nothing waits to be committed.

@@ -1,5 +1,5 @@
 use crate::MemberParts;
-use gr_ids::{Blob, Inc, Limits, Mode, Pos, ValueId};
+use gr_ids::{Blob, Inc, Level, Limits, MemberState, Mode, Pos, ValueId};
 use gtid_sets::GtidSet;
 use paxos_forms::Ask;
 use slot_values::{Joiner, Value, What};
@@ -69,11 +69,24 @@ fn serve(rt: &impl Abort, alloc: Global, parts: &MemberParts) -> Result<(), Fail
     Ok(())
 }
 
+// A BEFORE begin waits for the next own value.
+fn begin(rt: &impl Abort, alloc: Global, parts: &MemberParts) -> Result<(), Fail> {
+    let me = joiner(1).inc;
+    let conditions = parts.conditions(alloc, me, Level::Before, MemberState::Online, 1, None)?;
+    let sync = ValueId {
+        origin: me,
+        number: 2,
+    };
+    assert_eq!(rt; conditions.sync, Some(sync));
+    Ok(())
+}
+
 fn live(rt: &impl Abort, alloc: Global, parts: &mut MemberParts) -> Result<(), Fail> {
     take(rt, alloc, parts, What::Body(Blob::of(alloc, INSERT)?))?;
     take(rt, alloc, parts, What::Add(joiner(3)))?;
     listen(rt, parts, joiner(3).inc)?;
     serve(rt, alloc, parts)?;
+    begin(rt, alloc, parts)?;
     take(rt, alloc, parts, What::Remove(joiner(2).inc))?;
     assert!(rt; !parts.watch().suspects(joiner(2).inc));
     Ok(())

@@ -51,7 +51,7 @@ const MESSAGES: [&[u8]; 11] = [
 // What was decoded is encoded as the same bytes.
 fn is_read_back(rt: &impl Abort, alloc: Global, bytes: &[u8]) -> Result<(), Fail> {
     let message = decode(alloc, bytes)?;
-    let again = encode(alloc, &message)?;
+    let again = encode(alloc, &message.try_copy(alloc)?)?;
     assert_eq!(rt; again.as_slice(), bytes);
     Ok(())
 }

@@ -12,7 +12,7 @@ ghost use Rattle.paxos_leader.specs.Parts.{standing};
 use crate::leader::{Leader, Proposed};
 use crate::promise::{best_vote, is_promised, is_reported_above};
 use gr_ids::{Inc, Memory, ValueId};
-use paxos_votes::{Learner, copied_value, copied_what};
+use paxos_votes::Learner;
 use slot_values::{Turns, Value, What};
 use std::alloc::Global;
 
@@ -76,7 +76,7 @@ impl Leader {
         ensures { IfOk result (λ value. value ≡ forced (reported_above self.now.promises slot || decided_above learner.now slot) self.now.ballot (best config.now self.now.promises slot)) }
     {
         if let Some(vote) = best_vote(config, &self.promises, slot) {
-            return Ok(Some(copied_value(alloc, &vote.value)?));
+            return Ok(Some(vote.value.try_copy(alloc)?));
         }
         if is_reported_above(&self.promises, slot) || learner.is_decided_above(slot) {
             return Ok(Some(noop(self.ballot.inc)));
@@ -120,7 +120,7 @@ impl Leader {
         match self.offers.first() {
             Some((id, what)) => Ok(Some(Value {
                 id: *id,
-                what: copied_what(alloc, what)?,
+                what: what.try_copy(alloc)?,
             })),
             None => Ok(None),
         }

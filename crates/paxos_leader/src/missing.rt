@@ -12,7 +12,7 @@ use crate::incs::{has_inc, put_incs};
 use crate::leader::{Leader, Proposed};
 use crate::promise::{Promise, has_promise, is_promised};
 use gr_ids::{Inc, Memory, Sequence};
-use paxos_votes::{Learner, copied_value};
+use paxos_votes::Learner;
 use slot_values::{Turns, Value};
 use std::alloc::Global;
 use std::collections::BTreeMap;
@@ -133,7 +133,7 @@ fn missing_one(
     let config = config_or_none(turns, slot);
     Ok(Unaccepted {
         slot,
-        value: copied_value(alloc, &proposed.value)?,
+        value: proposed.value.try_copy(alloc)?,
         incs: Sequence::from_vec(without(alloc, &proposed.accepted, config)?),
     })
 }

@@ -1,6 +1,4 @@
 -- A message of the grammar may be heard.
-use Rattle.std.specs.Prelude.{List}
-use Rattle.slot_values.specs.Slots.{IsSlot}
 use Rattle.paxos_forms.specs.Messages.{IsMessage, IsWire}
 use Rattle.paxos_forms.specs.declared.message.Message.{Message}
 use Rattle.paxos_forms.specs.declared.message.Wire.{Wire}

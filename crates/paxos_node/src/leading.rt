@@ -10,7 +10,7 @@ ghost use Rattle.paxos_node.specs.Parts.{AllKept, KnowsLog, log_of};
 
 use gr_ids::{Ballot, Inc, Memory, Sequence};
 use paxos_leader::Leader;
-use paxos_votes::{Learner, copied_value};
+use paxos_votes::Learner;
 use slot_values::{Turns, Value, Vote};
 use std::alloc::Global;
 
@@ -93,7 +93,7 @@ pub(crate) fn own_vote(
     Ok(Some(Vote {
         slot,
         ballot: leader.ballot(),
-        value: copied_value(alloc, value)?,
+        value: value.try_copy(alloc)?,
     }))
 }
 
@@ -150,7 +150,7 @@ fn offer_each(
     ensures { OnOk result (leader.new ≡ fold (take_offer (is_decided learner.now) (last_of turns.now.turns.reading)) leader.old values.now) }
 {
     for value in values {
-        leader.offer(copied_value(alloc, value)?, learner, turns)?;
+        leader.offer(value.try_copy(alloc)?, learner, turns)?;
     }
     Ok(())
 }

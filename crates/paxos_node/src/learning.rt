@@ -11,7 +11,7 @@ use crate::told::raise;
 use crate::turns::{is_member, reached};
 use gr_ids::{Ballot, Inc, Memory};
 use paxos_forms::{Message, Wire};
-use paxos_votes::{KnownSlot, copied_value};
+use paxos_votes::KnownSlot;
 use slot_values::Value;
 use std::alloc::Global;
 
@@ -27,7 +27,7 @@ impl Node {
         requires { slot ≤ 2 ^ 42 }
         ensures { OnOk result (self.new ≡ (hear_learn slot value.now self.old).node) }
     {
-        self.learn(slot, copied_value(alloc, value)?)
+        self.learn(slot, value.try_copy(alloc)?)
     }
 
     // The slot is decided here, unless it was.

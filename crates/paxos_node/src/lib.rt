@@ -19,3 +19,4 @@ mod voting;
 mod welcoming;
 
 pub use node::Node;
+pub use order::{is_for, is_in_order};

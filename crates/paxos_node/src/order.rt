@@ -15,7 +15,7 @@ use std::alloc::Global;
 const MOST_MEMBERS: usize = 9;
 
 /// Whether a Welcome fits together. Linear in it, and in its members times all that ever were members.
-pub(crate) fn is_in_order(alloc: Global, welcome: &Welcome) -> Result<bool, Memory>
+pub fn is_in_order(alloc: Global, welcome: &Welcome) -> Result<bool, Memory>
     ensures { IfOk result (λ fits. fits ≡ is_in_order welcome.now) }
 {
     let incs = incs_in(alloc, welcome)?;
@@ -29,7 +29,7 @@ pub(crate) fn is_in_order(alloc: Global, welcome: &Welcome) -> Result<bool, Memo
 }
 
 /// Whether the Welcome has as many configurations as the horizon, and this incarnation is RECOVERING there. Linear in the members.
-pub(crate) fn is_for(welcome: &Welcome, me: Inc, horizon: u16) -> bool
+pub fn is_for(welcome: &Welcome, me: Inc, horizon: u16) -> bool
     ensures { result ≡ is_for welcome.now me horizon }
 {
     welcome.configs.as_slice().len() == horizon as usize

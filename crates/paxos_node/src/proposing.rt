@@ -11,8 +11,7 @@ use crate::node::Node;
 use crate::sending::{Notice, tell_others};
 use crate::turns::ruling;
 use gr_ids::{Ballot, Inc, Memory, Sequence};
-use paxos_forms::{Message, Wire};
-use paxos_votes::{copied_value, copied_vote};
+use paxos_forms::{Message, Wire, copied};
 use slot_values::{Value, Vote};
 use std::alloc::Global;
 use std::slice;
@@ -102,7 +101,7 @@ impl Node {
         if !leads_at(&self.leader, ballot) {
             return Ok(());
         }
-        keep_promise(&mut self.leader, from, copied_votes(alloc, votes)?)?;
+        keep_promise(&mut self.leader, from, copied(alloc, votes.as_slice())?)?;
         self.propose_all(alloc, sent)
     }
 
@@ -139,7 +138,7 @@ impl Node {
         ensures sent { OnOk result (sent.new.items ≡ sent.old.items ++ (own_value value.now self.old).sent) }
     {
         let first = self.own.len();
-        self.own.push(copied_value(alloc, value)?)?;
+        self.own.push(value.try_copy(alloc)?)?;
         self.offer_own(alloc, sent, first)
     }
 
@@ -192,18 +191,8 @@ fn send_each(
         sent.push(Message {
             from: me,
             to,
-            wire: Wire::Offer(copied_value(alloc, value)?),
+            wire: Wire::Offer(value.try_copy(alloc)?),
         })?;
     }
     Ok(())
-}
-
-fn copied_votes(alloc: Global, votes: &Sequence<Vote>) -> Result<Sequence<Vote>, Memory>
-    ensures { IfOk result (λ copy. copy ≡ votes.now) }
-{
-    let mut copies = Vec::new(alloc);
-    for vote in votes.as_slice() {
-        copies.push(copied_vote(alloc, vote)?)?;
-    }
-    Ok(Sequence::from_vec(copies))
 }

@@ -5,7 +5,6 @@ ghost use Rattle.paxos_node.specs.Notices.{told_to, wire_of};
 
 use gr_ids::{Ballot, Inc, Memory};
 use paxos_forms::{Message, Wire};
-use paxos_votes::copied_value;
 use slot_values::Value;
 use std::alloc::Global;
 
@@ -25,9 +24,9 @@ pub(crate) fn wire_for(alloc: Global, notice: &Notice) -> Result<Wire, Memory>
     Ok(match notice {
         Notice::Prepare(ballot, slot) => Wire::Prepare(*ballot, *slot),
         Notice::Accept(ballot, slot, value) => {
-            Wire::Accept(*ballot, *slot, copied_value(alloc, *value)?)
+            Wire::Accept(*ballot, *slot, value.try_copy(alloc)?)
         }
-        Notice::Learn(slot, value) => Wire::Learn(*slot, copied_value(alloc, *value)?),
+        Notice::Learn(slot, value) => Wire::Learn(*slot, value.try_copy(alloc)?),
         Notice::Alive(slot) => Wire::Alive(*slot),
     })
 }

@@ -16,7 +16,6 @@ use crate::told::{ToldSlot, least_of};
 use gr_ids::{Inc, Memory};
 use node_rules::Taken;
 use paxos_leader::has_inc;
-use paxos_votes::copied_value;
 use slot_values::{Kept, Turns, Value, What};
 use std::alloc::Global;
 
@@ -59,7 +58,7 @@ impl Node {
         ensures { IfOk result (λ value. value ≡ option_map (λ e. e.value) (next_entry self.now.learner)) }
     {
         match self.learner.next() {
-            Some(value) => Ok(Some(copied_value(alloc, value)?)),
+            Some(value) => Ok(Some(value.try_copy(alloc)?)),
             None => Ok(None),
         }
     }

@@ -8,7 +8,6 @@ ghost use Rattle.node_rules.specs.Acceptor.{forget_votes, promising, refuses, vo
 ghost use Rattle.paxos_votes.specs.Entries.{entries_from};
 ghost use Rattle.paxos_votes.specs.Votes.{promise_of, vote_of};
 
-use crate::copies::copied_value;
 use crate::slot_maps::forget_below;
 use gr_ids::{Ballot, Inc, Memory, Sequence};
 use slot_values::{Value, Vote};
@@ -102,7 +101,7 @@ impl Acceptor {
         if is_refused(self.promise, self.low, ballot, slot) {
             return Ok(false);
         }
-        let value = copied_value(alloc, value)?;
+        let value = value.try_copy(alloc)?;
         self.votes.insert(slot, Voted { ballot, value })?;
         self.promise = ballot;
         Ok(true)
@@ -184,7 +183,7 @@ fn reported(alloc: Global, votes: &BTreeMap<u64, Voted>, from: u64) -> Result<Ve
         report.push(Vote {
             slot: *slot,
             ballot: voted.ballot,
-            value: copied_value(alloc, &voted.value)?,
+            value: voted.value.try_copy(alloc)?,
         })?;
     }
     Ok(report)

@@ -7,7 +7,6 @@ ghost use Rattle.node_rules.specs.Proposing.{decided_above};
 ghost use Rattle.node_rules.specs.Slots.{first_empty};
 ghost use Rattle.paxos_votes.specs.Entries.{InRange, entries_from, entries_within, entry_in, entry_of};
 
-use crate::copies::copied_value;
 use crate::slot_maps::forget_below;
 use gr_ids::{Inc, Memory};
 use slot_values::{Value, What};
@@ -189,7 +188,7 @@ fn decided_between(
     for (slot, value) in decided.range(from..end) {
         known.push(KnownSlot {
             slot: *slot,
-            value: copied_value(alloc, value)?,
+            value: value.try_copy(alloc)?,
         })?;
     }
     Ok(known)

@@ -2,13 +2,11 @@
 #![tactic(auto)]
 
 mod acceptor;
-mod copies;
 mod learner;
 mod slot_maps;
 #[cfg(test)]
 mod tests;
 
 pub use acceptor::{Acceptor, Voted};
-pub use copies::{copied_value, copied_vote, copied_what};
 pub use learner::{KnownSlot, Learner};
 pub use slot_maps::forget_below;

@@ -1,4 +1,4 @@
-use crate::{Acceptor, Learner, copied_vote};
+use crate::{Acceptor, Learner};
 use gr_ids::{Ballot, Inc, ValueId};
 use slot_values::{Value, Vote, What};
 use std::test::Fail;
@@ -48,7 +48,7 @@ fn an_acceptor_votes_at_or_above_its_promise(rt: HostRuntime) -> Result<(), Fail
         ballot: ballot(5),
         value: noop(4),
     };
-    acceptor.vote(copied_vote(rt.alloc(), &own)?)?;
+    acceptor.vote(own.try_copy(rt.alloc())?)?;
     acceptor.promise(ballot(6));
     let votes = acceptor.votes_from(rt.alloc(), 2)?;
     let slots: Vec<u64> = votes

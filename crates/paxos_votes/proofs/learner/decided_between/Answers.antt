@@ -20,7 +20,7 @@ loop-slot-init c =
 
 pub loop-slot-preserved : goal.loop-slot-preserved
 loop-slot-preserved c =
-    let k : KnownSlot = record { slot = c.in-Some.slot.now; value = c.in_ok-copied_value.field-0 } in
-    let same : entry_in k ≡ entry_of (c.in-Some.slot.now, c.in-Some.value.now) = ap (λ (v : Value). entry_of (c.in-Some.slot.now, v)) c.in_ok-copied_value.ensures in
+    let k : KnownSlot = record { slot = c.in-Some.slot.now; value = c.in_ok-try_copy.field-0 } in
+    let same : entry_in k ≡ entry_of (c.in-Some.slot.now, c.in-Some.value.now) = ap (λ (v : Value). entry_of (c.in-Some.slot.now, v)) c.in_ok-try_copy.ensures in
     let first = rest_more deref_pair c.loop-slot.slot-iterator c.next.new.self c.next.result (c.in-Some.slot, c.in-Some.value) c.in-Some.is c.next.ensures.steps in
     rw c.in_ok-push.ensures.items (shifts c.loop-slot.known.items k (c.in-Some.slot.now, c.in-Some.value.now) c.loop-slot.slot-iterator c.next.new.self first same ∙ c.loop-slot.invariant)

@@ -1,10 +1,7 @@
 -- The node's step, and its messages.
 use Rattle.std.proofs.Common.{refl}
 use Rattle.std.proofs.lemmas.Result.{on_ok_weaker}
-use Rattle.node_rules.specs.Step.{node_step}
-use Rattle.group_rules.specs.Events.{Life}
-use Rattle.group_rules.specs.Member.{Member, at_node}
-use Rattle.member_moment.specs.Standing.{RestFor}
+use Rattle.group_rules.specs.Member.{at_node}
 use Rattle.member_moment.proofs.Ordered.{at_rest, stands_at}
 use Rattle.member_moment.proofs.moment.Moment.at_node.Goals as goal
 

@@ -11,6 +11,6 @@ returns-clause-begun c = λ base a h b.
     let r = c.args.released.now in
     record {
       aside = passed base a c.args.self.now (record c.args.self.now { tables = c.begun.new.self; marks = c.push.new.self }) refl (Begun r.session (executed a.life) r.sync)
-          (c.in_ok-push.ensures.items ∙ ap (λ v. c.args.self.now.marks.items ++ AnsweredMark r.session v ∷ []) (c.in_ok-answer.ensures.answer a b.tables)) (record { own = refl; range = refl; ranged = tt; committed = refl }) refl b.aside;
+          (c.in_ok-push.ensures.items ∙ ap (λ v. c.args.self.now.marks.items ++ AnsweredMark r.session v ∷ []) (c.in_ok-answer.ensures.answer a b.tables)) (record { own = refl; ranged = tt; committed = refl }) refl refl b.aside;
       tables = c.in_ok-answer.ensures.begun a b.tables;
     }

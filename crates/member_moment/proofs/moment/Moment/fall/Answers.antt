@@ -6,6 +6,7 @@ use Rattle.group_rules.specs.Member.{Member, fall, push}
 use Rattle.local_sessions.specs.Acting.{TakenOf}
 use Rattle.local_sessions.specs.declared.told.TakenOwn.{TakenOwn}
 use Rattle.member_joining.proofs.Joined.{states}
+use Rattle.member_ranges.proofs.Passed.{passed as said}
 use Rattle.member_tables.specs.declared.tables.MemberTables.{MemberTables}
 use Rattle.member_tables.specs.Standing.{TablesFor}
 use Rattle.member_moment.specs.Ending.{taken_of}
@@ -25,7 +26,7 @@ returns c = both_ok c.tell_all.result
     let b : Member = push (Is Error c.args.cause) a in
     let fallen : RestFor base b y =
     rest_of base b y
-    (pushed base a x y refl (Is Error c.args.cause) c.in_ok-push.ensures.items (record { own = refl; range = refl; ranged = tt; committed = refl }) (states a.life Error c.args.cause x.joining st.rest.joining tt) (aside_of base a x st.rest))
+    (pushed base a x y refl (Is Error c.args.cause) c.in_ok-push.ensures.items (record { own = refl; ranged = tt; committed = refl }) (said (Is Error c.args.cause) a refl st.rest.range) (states a.life Error c.args.cause x.joining st.rest.joining tt) (aside_of base a x st.rest))
     (c.fail.ensures a.setup a.me.inc a.life c.args.cause st.rest.parts) in
     record {
       rest = subst (λ (d : Member). RestFor base d c.tell_all.new.self) (sym (c.in_ok-answers.ensures.answers a c.args.cause asked st.tables)) (r base b fallen);

@@ -1,5 +1,5 @@
 -- The value is made, and the node proposes it.
-use Rattle.std.proofs.Common.{rules, refl, ap, sym, subst, ◌∙◌, suc}
+use Rattle.std.proofs.Common.{rules, refl, ap, sym, subst}
 use Rattle.std.proofs.lemmas.Result.{on_ok_weaker}
 use Rattle.group_rules.specs.Member.{own}
 use Rattle.member_tables.specs.Standing.{TablesFor}
@@ -14,6 +14,6 @@ returns-clause-rest c = on_ok_weaker c.at_node.result (λ d base a holds spelt h
 
 pub returns-clause-does : goal.returns-clause-does
 returns-clause-does c = on_ok_two c.at_node.result (λ d o holds spelt h base a p st. record {
-    rest = d base a holds spelt h st.rest;
-    tables = subst (λ t. TablesFor (own c.args.what holds a) t) (sym (ap (λ z. z.tables) o)) (own_tables a c.args.what holds c.args.self.now.tables st.tables);
-  }) (returns-clause-rest c) c.at_node.ensures.others
+  rest = d base a holds spelt h st.rest;
+  tables = subst (λ t. TablesFor (own c.args.what holds a) t) (sym (ap (λ z. z.tables) o)) (own_tables a c.args.what holds c.args.self.now.tables st.tables);
+}) (returns-clause-rest c) c.at_node.ensures.others
