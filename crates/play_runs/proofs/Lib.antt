@@ -1,0 +1,4 @@
+mod Kept
+mod Plainly
+mod Stepping
+mod Stored
