@@ -10,7 +10,7 @@ ghost use Rattle.group_rules.specs.Member.{Member as Rules};
 ghost use Rattle.group_rules.specs.Steps.{found, start, step};
 ghost use Rattle.group_rules.specs.World.{stored_by};
 ghost use Rattle.member_ranges.specs.Ranges.{IsFounding};
-ghost use Rattle.member_core.specs.Standing.{HasStarted, IsEvent, IsKept, IsMember, IsStepOf, KeptFor, event_of, setup_with};
+ghost use Rattle.member_sketch.specs.Standing.{HasStarted, IsEvent, IsKept, IsMember, IsStepOf, KeptFor, event_of, setup_with};
 
 use crate::event::{Event, StepLeft};
 use crate::kept::KeptServer;

@@ -5,7 +5,7 @@ ghost use Rattle.group_rules.specs.Member.{Member as Rules};
 ghost use Rattle.group_rules.specs.Script.{waiting_at};
 ghost use Rattle.group_rules.specs.Sessions.{is_active, phase};
 ghost use Rattle.report_text.specs.Reporting.{member_report};
-ghost use Rattle.member_core.specs.Standing.{IsLeast, IsMember, IsResult};
+ghost use Rattle.member_sketch.specs.Standing.{IsLeast, IsMember, IsResult};
 
 use crate::member::Member;
 use apply_queue::WorkDone;

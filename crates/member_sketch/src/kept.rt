@@ -3,7 +3,7 @@ ghost use Rattle.std.specs.Prelude.{◌≡◌, IfOk};
 ghost use Rattle.gtid_sets.specs.Canonical.{IsNumber};
 ghost use Rattle.group_rules.specs.Events.{Stored};
 ghost use Rattle.group_rules.specs.World.{nothing_stored};
-ghost use Rattle.member_core.specs.Standing.{KeptFor, offline_write, with_write};
+ghost use Rattle.member_sketch.specs.Standing.{KeptFor, offline_write, with_write};
 
 use gr_ids::{Blob, Gtid, Memory};
 use key_items::Item;

@@ -25,12 +25,12 @@ use Rattle.group_rules.specs.Steps.{step, left_by}
 use Rattle.member_truth.specs.Growing.{IsPromised}
 use Rattle.member_truth.specs.Ranged.{IsRanged}
 use Rattle.member_messages.specs.Sending.{spelt}
-use Rattle.member_core.specs.declared.event.Event.{Event as Happening}
-use Rattle.member_core.specs.declared.event.Event.TheVariants.{Message as Comes, Tick, Done, Undone, Session, Operate}
-use Rattle.member_core.specs.declared.event.StepLeft.{StepLeft}
-use Rattle.member_core.specs.declared.member.Member.{Member as Running}
-use Rattle.member_core.specs.declared.member.Started.{Started}
-use Rattle.member_core.specs.declared.kept.KeptServer.{KeptServer}
+use Rattle.member_sketch.specs.declared.event.Event.{Event as Happening}
+use Rattle.member_sketch.specs.declared.event.Event.TheVariants.{Message as Comes, Tick, Done, Undone, Session, Operate}
+use Rattle.member_sketch.specs.declared.event.StepLeft.{StepLeft}
+use Rattle.member_sketch.specs.declared.member.Member.{Member as Running}
+use Rattle.member_sketch.specs.declared.member.Started.{Started}
+use Rattle.member_sketch.specs.declared.kept.KeptServer.{KeptServer}
 
 -- it stands for a member of the rules
 unfoldable pub IsMember : Member → Running → Type 0
