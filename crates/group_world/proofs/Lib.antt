@@ -1,2 +1,9 @@
 mod Finding
 mod Stepped
+mod Moving
+mod Left
+mod Servers
+mod Results
+mod Own
+mod Idle
+mod Handed

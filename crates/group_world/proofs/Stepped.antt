@@ -1,11 +1,11 @@
 -- The sites after a step of a member.
-use Rattle.std.proofs.Common.{◌≡◌, ℕ, ◌<◌, Option, Some, None, List, get_or, length, slice_get, refl, sym, ap, subst, ◌∙◌}
+use Rattle.std.proofs.Common.{◌≡◌, ℕ, ◌<◌, Option, Some, None, List, get_or, length, slice_get, sym, ap, subst, ◌∙◌}
 use Rattle.std.specs.Prelude.{slice_set, Result, Ok, Err, IfOk}
 use Rattle.std.proofs.lemmas.Option.{slice_get-get_or}
 use Rattle.gr_ids.specs.declared.memory.Memory.{Memory}
 use Rattle.group_rules.specs.Events.{Event}
 use Rattle.group_rules.specs.World.{Server, running_of}
-use Rattle.group_world.specs.Sites.{AreSites, HasStepped, HaveStepped, IsSite, Rises, StepsAt, at_number, before}
+use Rattle.group_world.specs.Sites.{AreSites, HasStepped, HaveStepped, IsSite, Rises, before}
 use Rattle.group_world.specs.declared.site.Site.{Site}
 use Rattle.group_world.specs.declared.site.Turn.{Turn}
 use Rattle.group_world.proofs.Finding.{at_in, found, keep, put}

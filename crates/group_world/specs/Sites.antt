@@ -1,13 +1,12 @@
 -- Where the servers of a world stand: whether an incarnation runs, and what a server keeps that none runs at.
 use Rattle.std.specs.Prelude.{◌≡◌, ◌<◌, ◌==◌, not, ℕ, Option, Some, None, List, [], ◌∷◌, map}
 use Rattle.std.specs.List.{find, prefix_len}
-use Rattle.gr_ids.specs.declared.names.Inc.{Inc}
 use Rattle.paxos_forms.specs.declared.message.Message.{Message}
 use Rattle.paxos_forms.specs.Messages.{IsMessage}
 use Rattle.node_rules.specs.Lists.{In}
 use Rattle.member_messages.specs.Sending.{spelt}
 use Rattle.member_truth.specs.Ranged.{IsRanged}
-use Rattle.group_rules.specs.Events.{Event, Stored, marks_of}
+use Rattle.group_rules.specs.Events.{Event, marks_of}
 use Rattle.group_rules.specs.Histories.{arranged}
 use Rattle.group_rules.specs.Life.{stored}
 use Rattle.group_rules.specs.Member.{Member}

@@ -22,7 +22,8 @@ use Rattle.member_sketch.specs.Standing.{setup_with}
 use Rattle.play_runs.specs.Runs.{IsRun}
 use Rattle.group_world.specs.Sites.{AreSites, Rises}
 use Rattle.group_world.specs.declared.founding.Founding.{Founding}
-use Rattle.group_world.specs.declared.world.World.{World as Stage}
+use Rattle.group_world.specs.declared.stage.Stage.{Stage}
+use Rattle.group_world.specs.declared.world.World.{World as Whole}
 
 -- ---- the parts
 
@@ -89,17 +90,17 @@ abbrev pub cleared : Play → Play
 cleared y = record y { said = []; refused = None }
 
 -- the world stands for the play of a script so far
-pub record IsWorld (y : Play) (x : Stage) : Type 0 where
+pub record IsWorld (y : Play) (x : Whole) : Type 0 where
   pub unfailed : x.fault ≡ None
-  pub unsaid : x.said.items ≡ []
-  pub along : Along (cleared y) x
+  pub unsaid : x.stage.said.items ≡ []
+  pub along : Along (cleared y) x.stage
 
 -- how many steps were applied
-abbrev pub steps_of : Stage → ℕ
+abbrev pub steps_of : Whole → ℕ
 steps_of x = x.steps
 
 -- the fault that every further step is answered
-abbrev pub fault_of : Stage → Option WorldFault
+abbrev pub fault_of : Whole → Option WorldFault
 fault_of x = x.fault
 
 -- what a step that is done says

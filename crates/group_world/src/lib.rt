@@ -2,8 +2,11 @@
 #![tactic(auto)]
 
 mod founding;
+mod handing;
+mod leaving;
 mod site;
 mod sites;
+mod stage;
 mod world;
 
 pub use world::World;

@@ -64,6 +64,10 @@ goes_on m w ok r g = moved m w ok r (λ t e. r.setup t (sym g.setup ∙ e)) g.fi
 quiet : (w : World) → IsRun w → Goes w (nothing_happens w)
 quiet w r = record { setup = refl; fits = (r.small, r.made) }
 
+-- a move that changes nothing
+pub idle_runs : (m : Move) (w : World) → IsMove m → IsRun w → move m w ≡ nothing_happens w → IsRun (nothing_happens w)
+idle_runs m w ok r e = subst IsRun e (moved m w ok r (λ t q. r.setup t (sym (ap (λ x. x.setup) e) ∙ q)) (subst (λ x. Fits x.past) (sym e) (r.small, r.made)))
+
 -- ---- something that is neither an entry nor an own value
 
 module _ (i : Inc) (d : Did) (no_entry : (e : Entry) → Took e ≡ d → ⊥) (no_value : (v : Value) (h : Option Body) → Made v h ≡ d → ⊥) where

@@ -9,8 +9,9 @@ ghost use Rattle.group_rules.specs.Legal.{IsLegal};
 ghost use Rattle.group_rules.specs.Life.{stored};
 ghost use Rattle.group_rules.specs.Member.{Member};
 ghost use Rattle.group_rules.specs.Steps.{step};
-ghost use Rattle.group_rules.specs.World.{Declares, Founds, Move, Server, Starts, Stops, World, WritesRow, move, new_world, server_at};
+ghost use Rattle.group_rules.specs.World.{Declares, Founds, Move, Server, Starts, Stops, World, WritesRow, move, new_world, nothing_happens, server_at};
 ghost use Rattle.group_runs.specs.Runs.{IsSetup};
+ghost use Rattle.group_runs.specs.Servers.{IsMove};
 ghost use Rattle.play_runs.specs.Plain.{ArePlain};
 ghost use Rattle.play_runs.specs.Runs.{HasRoom, IsRun, IsSafe, IsStepIn, RunsAt};
 
@@ -19,15 +20,16 @@ use group_legal::every_run_is_legal;
 use group_promises::every_step_is_promised;
 use order_laws::{only_taking_greets, only_taking_takes, welcomes_follow};
 
-/// A play begins as a run, and every move keeps it one: a server that is declared with a UUID, a founding as the laws ask, a start, a stop, and a row
-/// that is written offline under a number that a GTID may have.
-#[tactic(auto, using(crate::proofs::Kept::new_runs, crate::proofs::Kept::declared_runs, crate::proofs::Kept::founded_runs, crate::proofs::Kept::started_runs, crate::proofs::Kept::stopped_runs, crate::proofs::Kept::written_runs))]
+/// A play begins as a run, and every move keeps it one: a server that is declared with a UUID, a founding as the laws ask, a start, a stop, a row that
+/// is written offline under a number that a GTID may have, and a move that changes nothing.
+#[tactic(auto, using(crate::proofs::Kept::new_runs, crate::proofs::Kept::declared_runs, crate::proofs::Kept::founded_runs, crate::proofs::Kept::started_runs, crate::proofs::Kept::stopped_runs, crate::proofs::Kept::written_runs, crate::proofs::Kept::idle_runs))]
 pub fn plays_are_runs()
     ensures begun { IsRun new_world }
     ensures declared { (w : World) (n : ℕ) (u v : List ℕ) (g : ℕ) → IsUuid u → IsRun w → IsRun (move (Declares n u v g) w) }
     ensures founded { (w : World) (t : Setup) → IsSetup t → IsRun w → IsRun (move (Founds t) w) }
     ensures started { (w : World) (n via : ℕ) → IsRun w → IsRun (move (Starts n via) w) }
     ensures stopped { (w : World) (n : ℕ) → IsRun w → IsRun (move (Stops n) w) }
+    ensures idle { (m : Move) (w : World) → IsMove m → IsRun w → move m w ≡ nothing_happens w → IsRun (nothing_happens w) }
     ensures written { (w : World) (n : ℕ) (i : Item) (row : List ℕ) → HasRoom w n → IsRun w → IsRun (move (WritesRow n i row) w) }
 {}
 
