@@ -75,13 +75,8 @@ impl Maker {
                 Ok(()) => Ok(()),
                 Err(Memory) => Err(WorldFault::Memory),
             },
-            Err(fault) => {
-                if is_refusal(fault) {
-                    Ok(())
-                } else {
-                    Err(fault)
-                }
-            }
+            Err(fault) if is_refusal(fault) => Ok(()),
+            Err(fault) => Err(fault),
         }
     }
 

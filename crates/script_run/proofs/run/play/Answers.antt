@@ -22,47 +22,47 @@ loop-number-init g c = record {
 pub returns-in-Ok-None-clause-played : goal.returns-in-Ok-None-clause-played
 returns-in-Ok-None-clause-played g c = λ script told.
     let i = c.loop-number.invariant in
-    let along = along_find i.along c.find.ensures.reads in
+    let along = along_find {l2 = g.S.Source.left c.find.new.source} i.along c.find.ensures.reads in
     let found = rw c.in-Ok-None.field-0-is at c.in-Ok-None.ensures.found in
     let ended = c.conclude.ensures in
-    exit_done _ c.conclude.result (all_done along found.0 found.1 script told) (omega (arith, c.loop-number.auto.number)) (ended.concluded i.state i.stands) ended.known i.stands.legal
+    exit_done {w2 = g.K.Sink.written c.conclude.new.sink} _ c.conclude.result (all_done along found.0 found.1 script told) (omega (arith, c.loop-number.auto.number)) (ended.concluded i.state i.stands) ended.known i.stands.legal
 
 pub returns-in-Err-Failed-clause-played : goal.returns-in-Err-Failed-clause-played
 returns-in-Err-Failed-clause-played g c = λ script told.
     let i = c.loop-number.invariant in
     let failed = c.in-Err-Failed.is ∙ ap Err c.in-Err-Failed.field-0-is in
-    with_status _ _ c.new.ensures (exit_read (along_find i.along c.find.ensures.reads) (c.find.ensures.failed failed) i.stands.legal script told)
+    with_status _ _ c.new.ensures (exit_read (along_find {l2 = g.S.Source.left c.find.new.source} i.along c.find.ensures.reads) (c.find.ensures.failed failed) i.stands.legal script told)
 
 pub returns-in-Err-Memory-clause-played : goal.returns-in-Err-Memory-clause-played
 returns-in-Err-Memory-clause-played g c = λ script told.
     let i = c.loop-number.invariant in
-    with_status _ _ c.new-in-Err-Memory.ensures (exit_memory (along_find i.along c.find.ensures.reads) i.stands.legal script told)
+    with_status _ _ c.new-in-Err-Memory.ensures (exit_memory (along_find {l2 = g.S.Source.left c.find.new.source} i.along c.find.ensures.reads) i.stands.legal script told)
 
 pub returns-in-Err-clause-played : goal.returns-in-Err-clause-played
 returns-in-Err-clause-played g c = λ script told.
     let i = c.loop-number.invariant in
-    with_status _ _ c.new-in-Err.ensures (exit_memory (along_find i.along c.find.ensures.reads) i.stands.legal script told)
+    with_status _ _ c.new-in-Err.ensures (exit_memory (along_find {l2 = g.S.Source.left c.find.new.source} i.along c.find.ensures.reads) i.stands.legal script told)
 
 pub returns-then-is_err-clause-played : goal.returns-then-is_err-clause-played
 returns-then-is_err-clause-played g c = λ script told.
     let i = c.loop-number.invariant in
-    let along = along_find i.along c.find.ensures.reads in
+    let along = along_find {l2 = g.S.Source.left c.find.new.source} i.along c.find.ensures.reads in
     let found = rw c.in-Ok-Some.field-0-is at c.in-Ok-Some.ensures.found in
     let said = rw c.held.ensures at (c.in-Ok.ensures.said i.state i.stands) in
     let cut = put_cut c.put_all.result c.as_slice.result.now (sym c.is_err.ensures.value ∙ c.if-is_err.true) in
     with_status _ _ c.new-then-is_err.ensures
-    (exit_write c.in-Ok-Some.found.kind c.in-Ok-Some.found.len c.in-Ok-Some.found.taken cut.0 along found.2
+    (exit_write {w2 = g.K.Sink.written c.put_all.new.sink} c.in-Ok-Some.found.kind c.in-Ok-Some.found.len c.in-Ok-Some.found.taken cut.0 along found.2
     (c.put_all.ensures.content ∙ ap (append_known (g.K.Sink.written c.loop-number.sink)) (cut.1 ∙ ap (take cut.0) (c.as_slice.ensures ∙ said.text)))
     (legal_after i.state c.loop-number.number _ i.stands.legal (λ e. (said.stands e).legal)) script told)
 
 pub returns-then-code-ne-DONE-clause-played : goal.returns-then-code-ne-DONE-clause-played
 returns-then-code-ne-DONE-clause-played g c = λ script told.
     let i = c.loop-number.invariant in
-    let along = along_find i.along c.find.ensures.reads in
+    let along = along_find {l2 = g.S.Source.left c.find.new.source} i.along c.find.ensures.reads in
     let found = rw c.in-Ok-Some.field-0-is at c.in-Ok-Some.ensures.found in
     let said = rw c.held.ensures at (c.in-Ok.ensures.said i.state i.stands) in
     let whole = put_whole c.put_all.result c.as_slice.result.now (sym c.is_err.ensures.value ∙ c.if-is_err.false) in
-    exit_stop c.in-Ok-Some.found.kind c.in-Ok-Some.found.len c.in-Ok-Some.found.taken c.in-Ok.said.status along found.2 said.status (λ e. c.if-code-ne-DONE.true (c.code.ensures ∙ e))
+    exit_stop {w2 = g.K.Sink.written c.put_all.new.sink} c.in-Ok-Some.found.kind c.in-Ok-Some.found.len c.in-Ok-Some.found.taken c.in-Ok.said.status along found.2 said.status (λ e. c.if-code-ne-DONE.true (c.code.ensures ∙ e))
     (subst IsEnded (sym said.status) (line_step_plain _ _ _).ended)
     (c.put_all.ensures.content ∙ ap (append_known (g.K.Sink.written c.loop-number.sink)) (whole ∙ c.as_slice.ensures ∙ said.text)) i.stands.legal script told
 
@@ -87,15 +87,15 @@ returns-then-code-ne-DONE-clause-known g c =
 pub returns-in-Last-clause-played : goal.returns-in-Last-clause-played
 returns-in-Last-clause-played g c = λ script told.
     let i = c.loop-number.invariant in
-    let along = along_find i.along c.find.ensures.reads in
+    let along = along_find {l2 = g.S.Source.left c.find.new.source} i.along c.find.ensures.reads in
     let found = rw c.in-Ok-Some.field-0-is at c.in-Ok-Some.ensures.found in
     let said = rw c.held.ensures at (c.in-Ok.ensures.said i.state i.stands) in
     let whole = put_whole c.put_all.result c.as_slice.result.now (sym c.is_err.ensures.value ∙ c.if-is_err.false) in
     let goes = sym said.status ∙ sym c.code.ensures ∙ c.if-code-ne-DONE.false in
-    let done_ = last_done c.in-Ok-Some.found.kind c.in-Ok-Some.found.len c.in-Ok-Some.found.taken (λ e. elim c.in-Last.is [ inl l ↦ cc (e, l) | inr l ↦ cc (e, l) ]) along found.2 goes
+    let done_ = last_done {w2 = g.K.Sink.written c.put_all.new.sink} c.in-Ok-Some.found.kind c.in-Ok-Some.found.len c.in-Ok-Some.found.taken (λ e. elim c.in-Last.is [ inl l ↦ cc (e, l) | inr l ↦ cc (e, l) ]) along found.2 goes
     (c.put_all.ensures.content ∙ ap (append_known (g.K.Sink.written c.loop-number.sink)) (whole ∙ c.as_slice.ensures ∙ said.text)) script told in
     let ended = c.conclude-in-Last.ensures in
-    exit_done c.loop-number.number c.conclude-in-Last.result done_ refl (ended.concluded _ (said.stands goes)) ended.known (said.stands goes).legal
+    exit_done {w2 = g.K.Sink.written c.conclude-in-Last.new.sink} c.loop-number.number c.conclude-in-Last.result done_ refl (ended.concluded _ (said.stands goes)) ended.known (said.stands goes).legal
 
 pub returns-in-Last-clause-read : goal.returns-in-Last-clause-read
 returns-in-Last-clause-read g c = λ e. absurd (not_read c.conclude-in-Last.result e c.conclude-in-Last.ensures.known)
@@ -116,7 +116,7 @@ returns-in-Last-clause-known g c = elim c.conclude-in-Last.ensures.known [ inl e
 pub loop-number-preserved : goal.loop-number-preserved
 loop-number-preserved g c =
     let i = c.loop-number.invariant in
-    let along = along_find i.along c.find.ensures.reads in
+    let along = along_find {l2 = g.S.Source.left c.find.new.source} i.along c.find.ensures.reads in
     let found = rw c.in-Ok-Some.field-0-is at c.in-Ok-Some.ensures.found in
     let said = rw c.held.ensures at (c.in-Ok.ensures.said i.state i.stands) in
     let none = sym c.is_err.ensures.value ∙ c.if-is_err.false in
@@ -124,7 +124,7 @@ loop-number-preserved g c =
     let goes = sym said.status ∙ sym c.code.ensures ∙ c.if-code-ne-DONE.false in
     let kind = rw c.in-Whole.is at found.2 in
     let line = take c.in-Ok-Some.found.len c.find.new.self in
-    let taken = along_takes line (drop c.in-Ok-Some.found.taken c.find.new.self) along
+    let taken = along_takes {w2 = g.K.Sink.written c.put_all.new.sink} line (drop c.in-Ok-Some.found.taken c.find.new.self) along
     (begins_at c.find.new.self c.in-Ok-Some.found.len c.in-Ok-Some.found.taken (g.S.Source.left c.find.new.source) kind) goes
     (c.put_all.ensures.content ∙ ap (append_known (g.K.Sink.written c.loop-number.sink)) (whole ∙ c.as_slice.ensures ∙ said.text)) in
     let within = line_step_within i.state c.loop-number.number line goes in
