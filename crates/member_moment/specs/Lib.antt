@@ -9,3 +9,4 @@ pub mod Calling
 pub mod Aside
 pub mod Ending
 pub mod Beginning
+pub mod Giving
