@@ -1,7 +1,8 @@
 -- What happens at a point, act by act.
-use Rattle.std.proofs.Common.{◌≡◌, ◌+◌, ◌≤◌, ◌<◌, ◌⊎◌, inl, inr, arith, ℕ, Bool, true, false, ◌&&◌, List, [], ◌∷◌, ◌++◌, map, drop, length, get_or, suc, add-one, refl, sym, ap, ◌∙◌, subst, append_assoc}
+use Rattle.std.proofs.Common.{◌≡◌, ◌+◌, ◌≤◌, ◌<◌, ℕ, Bool, true, false, ◌&&◌, List, [], ◌∷◌, ◌++◌, map, drop, length, get_or, suc, add-one, refl, sym, ap, ◌∙◌, subst, append_assoc}
 use Rattle.std.proofs.lemmas.List.{append-nil, drop_all}
 use Rattle.std.proofs.Math.Seq.{drop-cons}
+use Rattle.name_forms.specs.Gtids.{IsGtid}
 use Rattle.gtid_sets.specs.Sets.{Gtids}
 use Rattle.group_rules.specs.Commit.{owes_prepared}
 use Rattle.group_rules.specs.Events.{Cert, Life}
@@ -53,12 +54,12 @@ is_owed u x z t d base a c p k st =
     let e : prepare_one c a ≡ own_body (Prepared u.gtid) a = ap (λ b. elim b [ true ↦ own_body (Prepared c.gtid) a | false ↦ a ]) (sym (t base a c p st)) ∙ ap (λ g. own_body (Prepared g) a) (sym (ap (λ v. v.gtid) p.is_it)) in
     subst (λ b. Stands base b z) (sym e) (d base a (subst IsKept e k) st)
 
--- the number of a GTID that is pending is in range
-pub out_of_range : (u : Uncommitted) (x : Moment) → (u.gtid.number ≡ 0) ⊎ (9223372036854775806 < u.gtid.number) → DoesOne prepare_one u x x
+-- a GTID that is pending is in range
+pub out_of_range : (u : Uncommitted) (x : Moment) → (IsGtid u.gtid → ⊥) → DoesOne prepare_one u x x
 out_of_range u x h base a c p k st =
-    let n = (st.rest.parts.orderly.gtids c (in_certs a.life c p.waits)).1 in
-    let e : u.gtid.number ≡ c.gtid.number = ap (λ v. v.gtid.number) p.is_it in
-    absurd (elim h [ inl z ↦ omega (arith, e, n.0, z) | inr b ↦ omega (arith, e, n.1, b) ])
+    let g = st.rest.parts.orderly.gtids c (in_certs a.life c p.waits) in
+    let e : c.gtid ≡ u.gtid = sym (ap (λ (v : Uncommitted). v.gtid) p.is_it) in
+    absurd (h (subst IsGtid e (record { source = g.0.long; number_above = g.1.0; number_below = g.1.1 })))
 
 -- ---- for each that is pending
 

@@ -78,7 +78,7 @@ some_taken c x y z w t h d p base a st =
           let k2 : IsKept (done_of c b) = promised (points (done_of c b)) k1 in
           let k3 : IsKept b = promised (causes_grow c b) k2 in
           let s1 : Stands base b y = g.3.stands k3 in
-          let s2 : Stands base (done_of c b) z = d base b (takes_still g.0 g.0.kept (by_node take a) ∙ so, g.3.fits) k2 s1 in
+          let s2 : Stands base (done_of c b) z = d base b (takes_still g.0 g.0.kept (by_node take a) ∙ so, g.3.joins) k2 s1 in
           subst (λ m. Stands base (point m) w) (sym g.3.rest) (p base (done_of c b) k1 s2)),
     )
 

@@ -8,13 +8,13 @@ use Rattle.group_rules.specs.Points.{point}
 use Rattle.group_rules.specs.Taking.{next_slot, propose, rounds, take_slot, take_slots, takes_slots}
 use Rattle.member_moment.specs.declared.moment.Moment.{Moment}
 use Rattle.member_moment.specs.declared.taking.Caused.{Caused}
-use Rattle.member_moment.specs.Taking.{Fits}
+use Rattle.member_moment.specs.Taking.{Joins}
 use Rattle.member_moment.specs.Doing.{IsKept}
 use Rattle.member_moment.specs.Standing.{Stands}
 
 -- it takes slots, and has taken this
 abbrev pub MayCause : Caused → Member → Type 0
-MayCause c a = (takes_slots a.life ≡ true) × Fits c a
+MayCause c a = (takes_slots a.life ≡ true) × Joins c a
 
 -- the slot is taken, with a point after it
 abbrev pub pass_slot : Taken → Member → Member

@@ -9,7 +9,7 @@ ghost use Rattle.group_rules.specs.Member.{at_node as at_node_of};
 ghost use Rattle.group_rules.specs.Steps.{hear_add as hears_add};
 ghost use Rattle.member_ranges.specs.Hearing.{is_welcome};
 ghost use Rattle.member_moment.specs.Doing.{Does};
-ghost use Rattle.member_core.specs.Hearing.{hear as hears, hear_checked as hears_checked, hear_fallen as hears_fallen, message_of};
+ghost use Rattle.member_core.specs.Hearing.{asks_a_vote, hear as hears, hear_checked as hears_checked, hear_fallen as hears_fallen, message_of};
 
 use crate::recovery::check_ask;
 use gr_ids::{Inc, Memory};
@@ -40,12 +40,20 @@ pub(crate) fn hear_in_error(moment: &mut Moment, message: Message) -> Result<(),
     requires { IsMessage message }
     ensures { OnOk result (Does (hears_fallen message) moment.old moment.new) }
 {
-    match &message.wire {
-        Wire::Prepare(_, _) | Wire::Accept(_, _, _) => {
-            moment.heard(message.from);
-            hear_at_node(moment, message)
-        }
-        _ => Ok(()),
+    if !asks_vote(&message.wire) {
+        return Ok(());
+    }
+    moment.heard(message.from);
+    hear_at_node(moment, message)
+}
+
+fn asks_vote(wire: &Wire) -> bool
+    ensures { result ≡ asks_a_vote wire.now }
+{
+    match wire {
+        Wire::Prepare(_, _) => true,
+        Wire::Accept(_, _, _) => true,
+        _ => false,
     }
 }
 
@@ -65,15 +73,13 @@ fn hear_add(moment: &mut Moment, what: What) -> Result<(), Memory>
     requires { IsWhat 0 what }
     ensures { OnOk result (Does (hears_add what) moment.old moment.new) }
 {
-    match what {
-        What::Add(joiner) => {
-            if !moment.is_up() {
-                return Ok(());
-            }
-            moment.own_change(What::Add(joiner))
-        }
-        _ => Ok(()),
+    let What::Add(joiner) = what else {
+        return Ok(());
+    };
+    if !moment.is_up() {
+        return Ok(());
     }
+    moment.own_change(What::Add(joiner))
 }
 
 fn hear_welcome(moment: &mut Moment, from: Inc, to: Inc, welcome: Welcome) -> Result<(), Memory>

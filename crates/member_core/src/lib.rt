@@ -2,6 +2,8 @@
 #![tactic(auto)]
 
 mod hearing;
+mod operating;
 mod points;
 mod recovery;
 mod slots;
+mod ticking;

@@ -1,5 +1,5 @@
 // What happens at a point, that is after the action of a step and after each slot.
-ghost use Rattle.std.specs.Prelude.{◌≡◌, OnOk, length};
+ghost use Rattle.std.specs.Prelude.{OnOk};
 ghost use Rattle.gr_ids.specs.declared.memory.Memory.{Memory};
 ghost use Rattle.group_rules.specs.Points.{arrive as arrives, commit_all as commits_all, point as points, prepare_all as prepares_all, prepare_one as prepares};
 ghost use Rattle.member_moment.specs.Doing.{Does, DoesIf};
@@ -8,10 +8,8 @@ ghost use Rattle.member_core.specs.Points.{DoesOne, IsWell, point_well as points
 use gr_ids::Memory;
 use member_backlog::Uncommitted;
 use member_moment::Moment;
+use message_checks::is_gtid;
 use txn_forms::Body;
-
-// The greatest number of a GTID, 2^63 - 2.
-const LAST_NUMBER: u64 = 9_223_372_036_854_775_806;
 
 /// Commits, Prepared entries, begins, and the own Online entry. Quadratic in what waits to be committed.
 pub(crate) fn point(moment: &mut Moment) -> Result<(), Memory>
@@ -61,11 +59,9 @@ fn prepare_one(moment: &mut Moment, one: &Uncommitted) -> Result<(), Memory>
     if !is_owed {
         return Ok(());
     }
-    let number = one.gtid.number;
-    if number == 0 || number > LAST_NUMBER {
+    if !is_gtid(one.gtid) {
         return Ok(());
     }
-    has_sixteen_bytes(&one.gtid.source);
     moment.own_body(&Body::Prepared(one.gtid))
 }
 
@@ -78,9 +74,3 @@ fn arrive(moment: &mut Moment) -> Result<(), Memory>
     let executed = moment.copy_executed()?;
     moment.own_body(&Body::Online(executed))
 }
-
-// This says what the type says, and compiles to nothing.
-#[inline]
-fn has_sixteen_bytes(source: &[u8; 16])
-    ensures { length source.now ≡ 16 }
-{}

@@ -7,6 +7,7 @@ mod beginning;
 mod calling;
 mod committing;
 mod ending;
+mod giving;
 mod joining;
 mod moment;
 mod offering;

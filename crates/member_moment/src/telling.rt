@@ -1,5 +1,5 @@
 // What a member tells of itself in a step.
-ghost use Rattle.std.specs.Prelude.{◌≡◌, ◌&&◌, IfOk, is_some, map};
+ghost use Rattle.std.specs.Prelude.{◌≡◌, ◌&&◌, ◌||◌, IfOk, is_some, map};
 ghost use Rattle.gr_ids.specs.declared.memory.Memory.{Memory};
 ghost use Rattle.group_rules.specs.Commit.{owes_prepared as owes};
 ghost use Rattle.group_rules.specs.Events.{Cert, Life};
@@ -45,6 +45,13 @@ impl Moment {
         ensures { (base : Life) (a : Member) → Stands base a self.now → result ≡ is_offline (state_of a.life) }
     {
         matches!(self.state(), MemberState::Offline)
+    }
+
+    /// Whether it may leave: it is RECOVERING or ONLINE.
+    pub fn may_leave(&self) -> bool
+        ensures { (base : Life) (a : Member) → Stands base a self.now → result ≡ (is_recovering (state_of a.life) || is_up (state_of a.life)) }
+    {
+        self.is_recovering() || self.is_up()
     }
 
     /// Whether it takes slots: it is ONLINE, or RECOVERING with a Give.
