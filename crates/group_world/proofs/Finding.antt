@@ -1,11 +1,12 @@
 -- The server of a number among those of a world, and among those that are kept.
-use Rattle.std.proofs.Common.{◌≡◌, inl, inr, ℕ, suc, ◌+◌, ◌<◌, Bool, true, false, Some, None, List, [], ◌∷◌, slice_get, refl, sym, subst, ◌∙◌, arith}
-use Rattle.std.specs.Prelude.{◌==◌, nat_lt, slice_set}
+use Rattle.std.proofs.Common.{Bor, HoldsAt, Option, ap, ◌≤◌, length, get_or, ◌≡◌, inl, inr, ℕ, suc, ◌+◌, ◌<◌, Bool, true, false, Some, None, List, [], ◌∷◌, slice_get, refl, sym, subst, ◌∙◌, arith}
+use Rattle.std.specs.Prelude.{MatchOption, IfSome, option_copied, ◌==◌, nat_lt, slice_set}
 use Rattle.std.proofs.lemmas.Bool.Decides.{nat_tests}
 use Rattle.std.proofs.lemmas.Bool.{eqb-true}
+use Rattle.std.proofs.lemmas.Option.{slice_get-get_or, slice_get_past}
 use Rattle.node_rules.specs.Lists.{In}
 use Rattle.group_rules.specs.World.{Server, with_server}
-use Rattle.group_world.specs.Sites.{AreSites, IsSite, Rises, at_number, before}
+use Rattle.group_world.specs.Sites.{AreSites, HasSite, IsSite, Rises, at_number, before}
 use Rattle.group_world.specs.declared.site.Site.{Site}
 
 one_more : (n : ℕ) → 1 + n ≡ suc n
@@ -102,3 +103,18 @@ keep n (x ∷ ss) (w ∷ zs) s z y h e a k = go (w.number == n) refl (keep n ss 
         let there : (x.number == n) ≡ false = subst (λ m. (m == n) ≡ false) h.0.number q in
         let after : at_number n ss ≡ Some s = rw there at a in
         rw q (rw one_more (h.0, p later after k))
+
+-- ---- what is read at an index
+
+pub read_at : (o : Option (Bor Site)) (zs : List Site) (at : ℕ)
+    → MatchOption o (length zs ≤ at) (λ x. (at < length zs) × HoldsAt {X = Site} (λ y. x.now ≡ y) zs at) → IfSome o (λ x. x.now ≡ get_or zs at x.now) → option_copied o ≡ slice_get zs at
+read_at None zs at h k = sym (slice_get_past zs at h)
+read_at (Some x) zs at h k = ap Some k ∙ sym (slice_get-get_or zs at x.now h.0)
+
+-- so the site that is read is that of the server
+pub has_site : (n : ℕ) (ss : List Server) (zs : List Site) → AreSites ss zs → HasSite (at_number n ss) (slice_get zs (before n zs))
+has_site n ss zs h = go (slice_get zs (before n zs)) refl
+  where
+    go : (o : Option Site) → slice_get zs (before n zs) ≡ o → HasSite (at_number n ss) o
+    go None e = subst (λ s. HasSite s None) (sym (absent n ss zs h e)) tt
+    go (Some z) e = let f = found n ss zs z h e in subst (λ s. HasSite s (Some z)) (sym f.1) f.2

@@ -5,5 +5,7 @@ mod Left
 mod Servers
 mod Results
 mod Own
+mod Walking
+mod Seen
 mod Idle
 mod Handed

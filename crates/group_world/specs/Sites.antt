@@ -41,6 +41,13 @@ AreSites (s ∷ ss) (z ∷ zs) = IsSite s z × AreSites ss zs
 abbrev pub before : ℕ → List Site → ℕ
 before n zs = prefix_len (λ z. not (z.number == n)) zs
 
+-- the site of a server
+abbrev pub HasSite : Option Server → Option Site → Type 0
+HasSite None None = Unit {0}
+HasSite None (Some z) = ⊥
+HasSite (Some s) None = ⊥
+HasSite (Some s) (Some z) = IsSite s z
+
 -- each number is below those behind it
 abbrev pub Rises : List Server → Type 0
 Rises [] = Unit {0}

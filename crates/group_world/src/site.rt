@@ -4,6 +4,7 @@ ghost use Rattle.group_rules.specs.Member.{Member as Rules};
 ghost use Rattle.group_rules.specs.Steps.{step};
 ghost use Rattle.group_rules.specs.World.{Server};
 ghost use Rattle.member_sketch.specs.Standing.{IsEvent, IsKept, IsMember, event_of};
+ghost use Rattle.group_world.specs.Running.{inc_of};
 ghost use Rattle.group_world.specs.Sites.{HasStepped, IsSite, IsTurn};
 
 use gr_ids::{Inc, Memory};
@@ -43,6 +44,18 @@ impl Site {
         match &mut self.stay {
             Stay::Stopped(_) => Ok(None),
             Stay::Running(member) => Ok(Some(turn_of(member, event)?)),
+        }
+    }
+}
+
+impl Site {
+    /// The incarnation that runs, if one does.
+    pub(crate) fn running(&self) -> Option<Inc>
+        ensures { (s : Server) → IsSite s self.now → result ≡ inc_of s.running }
+    {
+        match &self.stay {
+            Stay::Stopped(_) => None,
+            Stay::Running(member) => Some(member.inc()),
         }
     }
 }
