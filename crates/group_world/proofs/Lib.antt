@@ -7,5 +7,7 @@ mod Results
 mod Own
 mod Walking
 mod Seen
+mod Posting
+mod Closing
 mod Idle
 mod Handed

@@ -7,6 +7,7 @@ mod leaving;
 mod site;
 mod sites;
 mod stage;
+mod wires;
 mod world;
 
 pub use world::World;
