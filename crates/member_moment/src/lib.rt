@@ -7,7 +7,10 @@ mod beginning;
 mod calling;
 mod committing;
 mod ending;
+mod founding;
+mod giving;
 mod joining;
+mod keepable;
 mod moment;
 mod offering;
 mod opening;
@@ -21,5 +24,6 @@ mod watching;
 mod welcoming;
 mod working;
 
+pub use arriving::some_events_come_untold;
 pub use moment::{Left, Moment};
 pub use taking::Caused;

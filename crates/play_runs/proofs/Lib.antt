@@ -1,4 +1,3 @@
+mod Apart
 mod Kept
-mod Plainly
 mod Stepping
-mod Stored

@@ -1,5 +1,5 @@
 -- A step of a member in a play is promised, and keeps that the play is a run.
-use Rattle.std.proofs.Common.{◌≡◌, ◌-◌, ◌+◌, inl, inr, ℕ, Option, None, Some, List, [], ◌∷◌, ◌++◌, refl, sym, ap, subst, ◌∙◌, length, take, arith, length-append}
+use Rattle.std.proofs.Common.{◌≡◌, ◌-◌, inl, inr, ℕ, Option, None, Some, List, ◌∷◌, ◌++◌, refl, sym, ap, subst, ◌∙◌, length, take}
 use Rattle.gr_ids.specs.declared.names.Inc.{Inc}
 use Rattle.node_rules.specs.Lists.{In}
 use Rattle.group_rules.specs.Events.{Event, Life, Setup}
@@ -17,6 +17,7 @@ use Rattle.group_promises.proofs.Steps.{small_more, made_more}
 use Rattle.member_truth.specs.Growing.{Grows, IsPromised}
 use Rattle.member_truth.specs.Ranged.{IsRanged}
 use Rattle.member_truth.proofs.Grown.{steps}
+use Rattle.plain_steps.proofs.Last.{take_more}
 use Rattle.play_runs.specs.Runs.{IsRun, IsSafe, IsStepIn, RunsAt}
 use Rattle.play_runs.proofs.Kept.{moved}
 
@@ -38,18 +39,6 @@ module _ (sound : (ms : List Move) → Sound (world_after ms)) where
           let k = it.runs t e (r.setup t e) in
           let x = k.1.running n s a q h in
           record { setup = e ∙ ap Some (sym x.setup); server = x.server; start = x.start; life = x.life }
-
--- ---- what a step adds
-
-take_length : {A : Type 0} (xs ys : List A) → take (length xs) (xs ++ ys) ≡ xs
-take_length [] ys = refl
-take_length (x ∷ xs) ys = ap (λ l. x ∷ l) (take_length xs ys)
-
-pub take_more : {A : Type 0} (xs ys : List A) → take (length (xs ++ ys) - length ys) (xs ++ ys) ≡ xs
-take_more xs ys =
-    let h : length (xs ++ ys) ≡ length xs + length ys = length-append xs ys in
-    let e : length (xs ++ ys) - length ys ≡ length xs = omega (arith, h) in
-    ap (λ n. take n (xs ++ ys)) e ∙ take_length xs ys
 
 -- ---- the step
 
