@@ -1,0 +1,6 @@
+use Rattle.std.proofs.lemmas.Result.{IfOk-weaker}
+use Rattle.member_core.specs.Standing.{cleared}
+use Rattle.member_core.proofs.member.Member.least_work.Goals as goal
+
+pub returns : goal.returns
+returns c = IfOk-weaker c.least_work.result _ _ (λ x h a m. h a.life (cleared a) m.moment) c.least_work.ensures

@@ -1,0 +1,6 @@
+use Rattle.std.proofs.lemmas.Result.{IfOk-weaker}
+use Rattle.member_core.specs.Standing.{cleared}
+use Rattle.member_core.proofs.member.Member.show_members.Goals as goal
+
+pub returns : goal.returns
+returns c = IfOk-weaker c.show_members.result _ _ (λ x h a m. h a.life (cleared a) m.moment) c.show_members.ensures

@@ -1,0 +1,7 @@
+pub mod Points
+pub mod Slots
+pub mod Hearing
+pub mod Ticking
+pub mod Operating
+pub mod Acting
+pub mod Standing
