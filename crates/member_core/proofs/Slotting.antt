@@ -1,7 +1,6 @@
 -- Slots that are taken, one after another.
-use Rattle.std.proofs.Common.{◌≡◌, ◌+◌, ◌≤◌, ◌<◌, ℕ, zero, suc, ◌-◌, ◌^◌, Bool, true, false, ◌&&◌, ◌||◌, Some, None, List, [], ◌∷◌, refl, sym, ap, ◌∙◌, subst, arith}
-use Rattle.gr_ids.specs.declared.levels.MemberState.{MemberState}
-use Rattle.gr_ids.specs.declared.levels.MemberState.TheVariants.{Offline, Recovering, Online, Error}
+use Rattle.std.proofs.Common.{◌≡◌, ◌+◌, ◌≤◌, ◌<◌, ℕ, zero, suc, ◌-◌, ◌^◌, Bool, true, false, Some, None, List, [], ◌∷◌, refl, sym, ap, ◌∙◌, subst, arith}
+use Rattle.gr_ids.specs.declared.levels.MemberState.TheVariants.{Online}
 use Rattle.slot_values.specs.declared.value.What.TheVariants.{Noop}
 use Rattle.slot_values.specs.declared.kept.Kept.{Kept}
 use Rattle.slot_values.specs.declared.kept.Kept.TheVariants.{At as KeptAt, Skipped as IsSkipped}
@@ -11,13 +10,12 @@ use Rattle.node_rules.specs.Taking.{take}
 use Rattle.group_rules.specs.declared.marks.Cause.TheVariants.{Removed, OwnOnline}
 use Rattle.group_rules.specs.declared.marks.Effect.TheVariants.{Conflict as Conflicting}
 use Rattle.group_rules.specs.Events.{Is, Life}
-use Rattle.group_rules.specs.Life.{has_give, is_error, is_recovering, is_up, state}
+use Rattle.group_rules.specs.Life.{is_error, state}
 use Rattle.group_rules.specs.Member.{Member, at_node, by_node, push}
 use Rattle.group_rules.specs.Points.{point}
 use Rattle.group_rules.specs.Taking.{next_slot, propose, rounds, settle_slots, take_slots, takes_slots}
 use Rattle.member_truth.specs.Growing.{Grows}
 use Rattle.member_truth.proofs.Grown.{causes_more, falls, greets, in_rounds, points, promised, proposes, pushes, stays, takes_slots as takes_grow}
-use Rattle.member_joining.specs.Joins.{MayBe}
 use Rattle.member_moment.specs.declared.moment.Moment.{Moment}
 use Rattle.member_moment.specs.declared.taking.Caused.{Caused}
 use Rattle.member_moment.specs.declared.taking.Caused.TheVariants.{Nothing, Conflict, Welcome, Removal, Arrival}

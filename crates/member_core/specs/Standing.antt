@@ -1,5 +1,5 @@
 -- How a member stands for one of the rules.
-use Rattle.std.specs.Prelude.{◌≡◌, Option, Some, None, [], map}
+use Rattle.std.specs.Prelude.{◌≡◌, Some, None, [], map}
 use Rattle.paxos_forms.specs.declared.message.Message.{Message}
 use Rattle.paxos_forms.specs.Messages.{IsMessage}
 use Rattle.node_rules.specs.Lists.{In}

@@ -1,5 +1,5 @@
 use Rattle.std.proofs.lemmas.Result.{on_ok_weaker}
-use Rattle.member_core.specs.declared.event.Event.TheVariants.{Message as Comes, Tick, Done, Undone, Session, Operate}
+use Rattle.member_core.specs.declared.event.Event.TheVariants.{Message as Comes, Done, Undone, Session, Operate}
 use Rattle.member_core.proofs.Acted.{falls_so}
 use Rattle.member_core.proofs.acting.act_in_error.Goals as goal
 
