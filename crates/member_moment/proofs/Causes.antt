@@ -1,11 +1,13 @@
 -- What an entry causes is what is told of it.
-use Rattle.std.proofs.Common.{◌≡◌, ℕ, List, Bool, true, false, Option, Some, None, refl, sym, ap, ◌∙◌}
+use Rattle.std.proofs.Common.{◌≡◌, ◌≤◌, ℕ, List, Bool, true, false, Option, Some, None, refl, sym, ap, ◌∙◌}
 use Rattle.std.specs.Prelude.{◌&&◌, if◌then◌else◌}
 use Rattle.gr_ids.specs.Names.{inc_eq}
 use Rattle.gr_ids.specs.declared.levels.MemberState.TheVariants.{Online}
 use Rattle.gr_ids.specs.declared.names.Inc.{Inc}
 use Rattle.gr_ids.specs.declared.names.OpenParts.{OpenParts}
 use Rattle.gr_ids.specs.declared.names.ValueId.{ValueId}
+use Rattle.slot_values.specs.Spelling.{IsValue, IsWhat}
+use Rattle.slot_values.specs.declared.value.Value.{Value}
 use Rattle.slot_values.specs.declared.value.What.{What}
 use Rattle.slot_values.specs.declared.value.What.TheVariants.{Noop, Add, Remove, Body as Says}
 use Rattle.txn_forms.specs.declared.body.Body.{Body}
@@ -14,15 +16,16 @@ use Rattle.group_rules.specs.declared.marks.Cause.TheVariants.{OwnOnline, Remove
 use Rattle.group_rules.specs.declared.marks.Effect.{Effect}
 use Rattle.group_rules.specs.declared.marks.Effect.TheVariants.{Positive, Conflict, Plain, Void, Unread}
 use Rattle.group_rules.specs.Events.{Entry, Is}
-use Rattle.group_rules.specs.Life.{is_arrival}
+use Rattle.group_rules.specs.Life.{is_arrival, taken}
 use Rattle.group_rules.specs.Member.{Member, fall, push}
 use Rattle.group_rules.specs.Taking.{causes, on_plain}
 use Rattle.list_state.specs.Holding.{IsEntered, Shows}
 use Rattle.list_state.specs.declared.entered.Entered.{Entered}
 use Rattle.list_state.specs.declared.held.Held.{Held}
 use Rattle.list_state.specs.declared.held.Held.TheVariants.{Txn, Part as PartHeld, Other, Nothing}
+use Rattle.member_moment.specs.declared.taking.Caused.{Caused}
 use Rattle.member_moment.specs.declared.taking.Caused.TheVariants.{Nothing as NothingMore, Removal, Arrival}
-use Rattle.member_moment.specs.Taking.{arrives_by, cause_of, done_of, holds_online, news_cause, plain_cause}
+use Rattle.member_moment.specs.Taking.{Joins, arrives_by, cause_of, done_of, holds_online, news_cause, plain_cause}
 
 -- what is held tells an Online entry
 pub online_is : (o : Option OpenParts) (b : Option Body) (h : Held) → Shows o b h → holds_online h ≡ is_arrival b
@@ -97,3 +100,22 @@ by_effect e Unread o h a s = refl
 
 pub caused_is : (e : Entry) (r : Entered) (o : Option OpenParts) (a : Member) → IsEntered o e r → causes e e.effect a ≡ done_of (cause_of a.me.inc e.value r.effect r.held) a
 caused_is e r o a k = by_effect e e.effect o r.held a k.held ∙ ap (λ f. done_of (cause_of a.me.inc e.value f r.held) a) (sym k.effect)
+
+-- ---- a joiner that is to be welcomed
+
+joins_if : (t : Bool) (x y : Caused) (b : Member) → Joins x b → Joins y b → Joins (if t then x else y) b
+joins_if true x y b p q = p
+joins_if false x y b p q = q
+
+joins_plainly : (me : Inc) (i : ValueId) (w : What) (h : Held) (b : Member) → IsWhat i.number w → 1 ≤ taken b.life → Joins (plain_cause me i w h) b
+joins_plainly me i (Add j) h b k p = (k.inc, p)
+joins_plainly me i (Remove j) h b k p = joins_if (inc_eq j me) Removal NothingMore b tt tt
+joins_plainly me i Noop h b k p = joins_if (arrives_by me i h) Arrival NothingMore b tt tt
+joins_plainly me i (Says x) h b k p = joins_if (arrives_by me i h) Arrival NothingMore b tt tt
+
+pub cause_joins : (me : Inc) (v : Value) (f : Effect) (h : Held) (b : Member) → IsValue v → 1 ≤ taken b.life → Joins (cause_of me v f h) b
+cause_joins me v (Conflict g) h b k p = tt
+cause_joins me v Plain h b k p = joins_plainly me v.id v.what h b k.what p
+cause_joins me v (Positive g) h b k p = tt
+cause_joins me v Void h b k p = tt
+cause_joins me v Unread h b k p = tt

@@ -51,8 +51,9 @@ use Rattle.member_moment.specs.declared.moment.Moment.{Moment}
 use Rattle.member_moment.specs.declared.taking.Caused.TheVariants.{Nothing}
 use Rattle.member_moment.specs.Doing.{IsKept}
 use Rattle.member_moment.specs.Standing.{AreMessages, Marked, RestFor, Stands}
-use Rattle.member_moment.specs.Taking.{HasPassed, Hands, arrives_by, cause_of, done_of}
-use Rattle.member_moment.proofs.Causes.{caused_is, online_is}
+use Rattle.slot_values.specs.Spelling.{IsValue}
+use Rattle.member_moment.specs.Taking.{HasPassed, Hands, Joins, arrives_by, cause_of, done_of}
+use Rattle.member_moment.proofs.Causes.{cause_joins, caused_is, online_is}
 use Rattle.member_moment.proofs.Pushed.{marked}
 use Rattle.member_moment.proofs.Uncommitted.{committed_before}
 
@@ -124,6 +125,7 @@ module _ (base : Life) (a : Member) (t : Taken) (x : Moment) (k : HasPassed t ba
       };
       tables = stands_on a.setup a.me.inc a.life x.tables (Skips t.slot t.value) refl refl (omega arith) tables_before;
     }));
+    joins = tt;
     rest = subst (λ c. take_kept t.slot t.value c (by_node take a) ≡ entered_by t c (by_node take a)) (sym q) refl;
   }
 
@@ -152,6 +154,9 @@ module _ (base : Life) (a : Member) (t : Taken) (x : Moment) (k : HasPassed t ba
 
     pub origin : IsInc v.id.origin
     origin = subst (λ (w : Value). IsInc w.id.origin) tv fits.value.id.origin
+
+    valid : IsValue v
+    valid = subst (λ (w : Value). IsValue w) tv fits.value
 
     same : entry_of a.setup a.life t.slot (suc (taken a.life)) h v ≡ entry
     same = ap (λ n. entry_of a.setup a.life t.slot n h v) (sym place) ∙ ap (λ w. entry_of a.setup a.life t.slot p h w) (sym tv)
@@ -246,5 +251,6 @@ module _ (base : Life) (a : Member) (t : Taken) (x : Moment) (k : HasPassed t ba
       pub took : Hands (cause_of x.me.inc v r.effect r.held) base a t y
       took = record {
         stands = λ kept. let u = true_entry kept in subst (λ (c : Kept). Stands base (entered_by t c (by_node take a)) y) (sym tk) (record { rest = rest_now u; tables = tables_now u });
+        joins = subst (λ (c : Kept). Joins (cause_of x.me.inc v r.effect r.held) (entered_by t c (by_node take a))) (sym tk) (cause_joins x.me.inc v r.effect r.held (push (Took entry) (by_node take a)) valid (omega (arith, place)));
         rest = caused;
       }

@@ -12,3 +12,5 @@ pub mod Beginning
 pub mod Committing
 pub mod Telling
 pub mod Watching
+pub mod Founding
+pub mod Giving

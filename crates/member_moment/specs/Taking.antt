@@ -1,9 +1,11 @@
 -- A slot that is taken.
-use Rattle.std.specs.Prelude.{◌≡◌, ◌&&◌, if◌then◌else◌, Bool, true, false, Option, Some, None, List, [], ◌∷◌}
+use Rattle.std.specs.Prelude.{◌≡◌, ◌≤◌, ◌&&◌, if◌then◌else◌, Bool, true, false, Option, Some, None, List, [], ◌∷◌}
 use Rattle.gr_ids.specs.Names.{inc_eq}
 use Rattle.gr_ids.specs.declared.names.Inc.{Inc}
 use Rattle.gr_ids.specs.declared.names.ValueId.{ValueId}
 use Rattle.txn_forms.specs.declared.body.Body.TheVariants.{Online as Arrives}
+use Rattle.name_forms.specs.Incs.{IsInc}
+use Rattle.group_rules.specs.Life.{taken}
 use Rattle.slot_values.specs.declared.value.Value.{Value}
 use Rattle.slot_values.specs.declared.value.What.{What}
 use Rattle.slot_values.specs.declared.value.What.TheVariants.{Add, Remove}
@@ -59,6 +61,11 @@ cause_of me v (Conflict g) h = Conflicts v.id g
 cause_of me v Plain h = plain_cause me v.id v.what h
 cause_of me v f h = Nothing
 
+-- a joiner that is to be welcomed was added by an entry
+abbrev pub Joins : Caused → Member → Type 0
+Joins (Welcome i) a = IsInc i × (1 ≤ taken a.life)
+Joins c a = Unit {0}
+
 -- The slot is handed out by the node, and nothing else of the member knows it.
 pub record HasPassed (t : Taken) (base : Life) (a : Member) (x : Moment) : Type 0 where
   pub more : List Taken
@@ -71,6 +78,7 @@ pub record HasPassed (t : Taken) (base : Life) (a : Member) (x : Moment) : Type 
 -- The slot is taken, and what it causes is still to be done.
 pub record Hands (c : Caused) (base : Life) (a : Member) (t : Taken) (y : Moment) : Type 0 where
   pub stands : IsKept (takes_on t a) → Stands base (takes_on t a) y
+  pub joins : Joins c (takes_on t a)
   pub rest : take_slot t (by_node take a) ≡ done_of c (takes_on t a)
 
 -- A member that takes slots has taken one, or there was none.

@@ -7,6 +7,8 @@ mod beginning;
 mod calling;
 mod committing;
 mod ending;
+mod founding;
+mod giving;
 mod joining;
 mod moment;
 mod offering;

@@ -1,11 +1,12 @@
 // What a member tells of itself in a step.
-ghost use Rattle.std.specs.Prelude.{◌≡◌, IfOk, map};
+ghost use Rattle.std.specs.Prelude.{◌≡◌, ◌&&◌, ◌||◌, IfOk, is_some, map};
 ghost use Rattle.gr_ids.specs.declared.memory.Memory.{Memory};
 ghost use Rattle.group_rules.specs.Commit.{owes_prepared as owes};
 ghost use Rattle.group_rules.specs.Events.{Cert, Life};
 ghost use Rattle.group_rules.specs.Life.{executed as executed_by, is_error, is_offline, is_recovering, is_up, state as state_of};
 ghost use Rattle.group_rules.specs.Member.{Member};
 ghost use Rattle.group_rules.specs.Queue.{pending};
+ghost use Rattle.group_rules.specs.Recovery.{pending_ask};
 ghost use Rattle.group_rules.specs.Taking.{takes_slots};
 ghost use Rattle.member_backlog.specs.Standing.{uncommitted_of};
 ghost use Rattle.member_parts.specs.Committing.{IsPending};
@@ -46,6 +47,13 @@ impl Moment {
         matches!(self.state(), MemberState::Offline)
     }
 
+    /// Whether it may leave: it is RECOVERING or ONLINE.
+    pub fn may_leave(&self) -> bool
+        ensures { (base : Life) (a : Member) → Stands base a self.now → result ≡ (is_recovering (state_of a.life) || is_up (state_of a.life)) }
+    {
+        self.is_recovering() || self.is_up()
+    }
+
     /// Whether it takes slots: it is ONLINE, or RECOVERING with a Give.
     pub fn takes_slots(&self) -> bool
         ensures { (base : Life) (a : Member) → Stands base a self.now → result ≡ takes_slots a.life }
@@ -83,6 +91,13 @@ impl Moment {
             && self.joining.has_give()
             && !self.own.has_arrived()
             && self.parts.backlog().waiting().is_empty()
+    }
+
+    /// Whether it is RECOVERING, and an ask is pending.
+    pub fn is_asking(&self) -> bool
+        ensures { (base : Life) (a : Member) → Stands base a self.now → result ≡ (is_recovering (state_of a.life) && is_some (pending_ask a.life)) }
+    {
+        self.is_recovering() && self.pending_ask().is_some()
     }
 
     /// A copy of what it has executed. Linear in its runs.

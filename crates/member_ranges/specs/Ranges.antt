@@ -2,7 +2,9 @@
 use Rattle.std.specs.Prelude.{◌≡◌, ◌+◌, ◌≤◌, ℕ, Bool, true, false, ◌||◌, Option, Some, None, List, [], length}
 use Rattle.byte_forms.specs.Lists.{IsChain}
 use Rattle.gr_ids.specs.declared.names.Inc.{Inc}
+use Rattle.gr_ids.specs.declared.levels.Mode.{Mode}
 use Rattle.gr_ids.specs.declared.levels.MemberState.{MemberState}
+use Rattle.gr_ids.specs.declared.limits.Limits.{Limits}
 use Rattle.gr_ids.specs.declared.levels.MemberState.TheVariants.{Error}
 use Rattle.name_forms.specs.Incs.{IsInc}
 use Rattle.gtid_sets.specs.Canonical.{IsUuid}
@@ -24,6 +26,9 @@ use Rattle.member_ranges.specs.Lives.{AllFit}
 use Rattle.member_ranges.specs.Logs.{HasLog}
 
 -- ---- the founding
+
+abbrev pub setup_with : Limits → Mode → List Joiner → Setup
+setup_with l m js = record { limits = l; mode = m; founders = js }
 
 abbrev pub inc_of_joiner : Option Joiner → Option Inc
 inc_of_joiner None = None

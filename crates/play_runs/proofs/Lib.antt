@@ -1,4 +1,2 @@
 mod Kept
-mod Plainly
 mod Stepping
-mod Stored

@@ -17,6 +17,7 @@ use Rattle.group_promises.proofs.Steps.{small_more, made_more}
 use Rattle.member_truth.specs.Growing.{Grows, IsPromised}
 use Rattle.member_truth.specs.Ranged.{IsRanged}
 use Rattle.member_truth.proofs.Grown.{steps}
+use Rattle.plain_steps.proofs.Last.{take_more}
 use Rattle.play_runs.specs.Runs.{IsRun, IsSafe, IsStepIn, RunsAt}
 use Rattle.play_runs.proofs.Kept.{moved}
 
@@ -38,18 +39,6 @@ module _ (sound : (ms : List Move) → Sound (world_after ms)) where
           let k = it.runs t e (r.setup t e) in
           let x = k.1.running n s a q h in
           record { setup = e ∙ ap Some (sym x.setup); server = x.server; start = x.start; life = x.life }
-
--- ---- what a step adds
-
-take_length : {A : Type 0} (xs ys : List A) → take (length xs) (xs ++ ys) ≡ xs
-take_length [] ys = refl
-take_length (x ∷ xs) ys = ap (λ l. x ∷ l) (take_length xs ys)
-
-pub take_more : {A : Type 0} (xs ys : List A) → take (length (xs ++ ys) - length ys) (xs ++ ys) ≡ xs
-take_more xs ys =
-    let h : length (xs ++ ys) ≡ length xs + length ys = length-append xs ys in
-    let e : length (xs ++ ys) - length ys ≡ length xs = omega (arith, h) in
-    ap (λ n. take n (xs ++ ys)) e ∙ take_length xs ys
 
 -- ---- the step
 

@@ -1,18 +1,15 @@
 //! What the plays of scripts rest on: each is a run of the group, so what every run promises holds of its members, and it is legal.
 #![tactic(auto)]
 
-ghost use Rattle.std.specs.Prelude.{◌≡◌, ◌-◌, ℕ, Some, List, length, take};
+ghost use Rattle.std.specs.Prelude.{◌≡◌, ℕ, Some, List};
 ghost use Rattle.gtid_sets.specs.Canonical.{IsUuid};
 ghost use Rattle.key_items.specs.declared.item.Item.{Item};
 ghost use Rattle.group_rules.specs.Events.{Event, Setup};
 ghost use Rattle.group_rules.specs.Legal.{IsLegal};
-ghost use Rattle.group_rules.specs.Life.{stored};
 ghost use Rattle.group_rules.specs.Member.{Member};
-ghost use Rattle.group_rules.specs.Steps.{step};
 ghost use Rattle.group_rules.specs.World.{Declares, Founds, Move, Server, Starts, Stops, World, WritesRow, move, new_world, nothing_happens, server_at};
 ghost use Rattle.group_runs.specs.Runs.{IsSetup};
 ghost use Rattle.group_runs.specs.Servers.{IsMove};
-ghost use Rattle.play_runs.specs.Plain.{ArePlain};
 ghost use Rattle.play_runs.specs.Runs.{HasRoom, IsRun, IsSafe, IsStepIn, RunsAt};
 
 use group_bridge::steps_are_acts;
@@ -52,10 +49,3 @@ pub fn plays_are_legal()
 {
     every_run_is_legal();
 }
-
-/// No step leaves a beginning, or the answer Changed without the change; so it leaves what the server had before as it was.
-#[tactic(auto, using(crate::proofs::Stored::stored_stays, crate::proofs::Stored::left_plain))]
-pub fn steps_are_plain()
-    ensures stored { (e : Event) (a : Member) → stored (step e a).life ≡ stored a.life }
-    ensures left { (e : Event) (a : Member) → ArePlain (take (length (step e a).life - length a.life) (step e a).life) }
-{}

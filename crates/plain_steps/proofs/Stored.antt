@@ -4,9 +4,9 @@ use Rattle.group_rules.specs.Events.{Founds, Starts, Came, Made, Took, Skips, Do
 use Rattle.group_rules.specs.Life.{stored}
 use Rattle.group_rules.specs.Member.{Member}
 use Rattle.group_rules.specs.Steps.{step}
-use Rattle.play_runs.specs.Plain.{ArePlain}
-use Rattle.play_runs.proofs.Plainly.{Adds, steps}
-use Rattle.play_runs.proofs.Stepping.{take_more}
+use Rattle.plain_steps.specs.Plain.{ArePlain}
+use Rattle.plain_steps.proofs.Plainly.{Adds, steps}
+use Rattle.plain_steps.proofs.Last.{take_more}
 
 stored_more : (x l : Life) → ArePlain x → stored (x ++ l) ≡ stored l
 stored_more [] past ok = refl

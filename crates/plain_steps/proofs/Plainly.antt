@@ -60,7 +60,7 @@ use Rattle.group_rules.specs.Recovery.{fail_ask, check_donor, check_ask, unless_
 use Rattle.group_rules.specs.Points.{answer_commit, answer_own, commit_one, commit_all, prepare_one, prepare_all, begin_by, begin_one, begin_all, unless_pending, arrive, point}
 use Rattle.group_rules.specs.Taking.{answer_conflict, on_conflict, on_plain, causes, take_kept, entry_of, take_slot, next_slot, take_slots, propose, rounds, settle_slots}
 use Rattle.group_rules.specs.Steps.{hear_add, hear_wire, done_of, work, time_out_by, time_out, expel_one, campaign_if_due, look_after, tell_at, member_tick, tick_on, tick_once, reply_ballot, reply_sent, if_online, leave, operate, act_alive, hear_in_error, act_in_error, act, held_mark, step}
-use Rattle.play_runs.specs.Plain.{ArePlain, IsPlain, IsPlainAnswer}
+use Rattle.plain_steps.specs.Plain.{ArePlain, IsPlain, IsPlainAnswer}
 
 -- the history grows by what is plain
 pub record Adds (a b : Member) : Type 0 where

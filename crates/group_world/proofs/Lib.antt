@@ -1,0 +1,13 @@
+mod Finding
+mod Stepped
+mod Moving
+mod Left
+mod Servers
+mod Results
+mod Own
+mod Walking
+mod Seen
+mod Posting
+mod Closing
+mod Idle
+mod Handed

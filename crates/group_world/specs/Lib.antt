@@ -1,0 +1,4 @@
+pub mod Sites
+pub mod Standing
+pub mod Events
+pub mod Running

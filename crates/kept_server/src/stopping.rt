@@ -1,0 +1,29 @@
+// An incarnation that stops.
+ghost use Rattle.std.specs.Prelude.{◌≡◌, IfOk};
+ghost use Rattle.group_rules.specs.Events.{Life};
+ghost use Rattle.group_rules.specs.Life.{stored};
+ghost use Rattle.kept_server.specs.Keeping.{IsEarlier, KeptFor, Leaves, left_of};
+
+use crate::kept::{Earlier, KeptServer};
+use gr_ids::Memory;
+use gtid_sets::GtidSet;
+use paxos_forms::Given;
+use row_store::Store;
+
+/// What is left of an incarnation that stops: what it has executed, its rows, and the transactions that it committed itself.
+#[derive(Debug, Drop)]
+pub struct Remains {
+    pub executed: GtidSet,
+    pub store: Store,
+    pub committed: Vec<Given>,
+}
+
+impl Earlier {
+    /// What the server keeps of an incarnation that stops.
+    pub fn with(self, remains: Remains) -> Result<KeptServer, Memory>
+        ensures { IfOk result (λ k. (l : Life) → Leaves l remains → IsEarlier (stored l) self → KeptFor (left_of l) k) }
+    {
+        let _what = (self, remains);
+        Err(Memory)
+    }
+}

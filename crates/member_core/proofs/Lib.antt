@@ -1,0 +1,5 @@
+pub mod Pending
+pub mod Pointing
+pub mod Slotting
+pub mod Asking
+pub mod Listening

@@ -1,0 +1,8 @@
+-- Those that are left.
+use Rattle.std.proofs.Common.{drop}
+use Rattle.group_rules.specs.Points.{commit_one}
+use Rattle.member_core.proofs.Pointing.{AreDone}
+use Rattle.member_core.proofs.points.commit_all.Given as goal
+
+abbrev pub invariant-loop-one : goal.invariant-loop-one
+invariant-loop-one l = AreDone commit_one (drop l.one-index l.one-items) l.fn.moment l.moment

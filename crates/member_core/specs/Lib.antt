@@ -1,0 +1,5 @@
+pub mod Points
+pub mod Slots
+pub mod Hearing
+pub mod Ticking
+pub mod Operating

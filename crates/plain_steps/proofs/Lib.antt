@@ -1,0 +1,3 @@
+pub mod Last
+mod Plainly
+mod Stored
