@@ -3,3 +3,7 @@ pub mod Pointing
 pub mod Slotting
 pub mod Asking
 pub mod Listening
+pub mod Ticked
+pub mod Operated
+pub mod Quiet
+pub mod Acted

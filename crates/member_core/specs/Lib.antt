@@ -3,3 +3,5 @@ pub mod Slots
 pub mod Hearing
 pub mod Ticking
 pub mod Operating
+pub mod Acting
+pub mod Standing

@@ -23,5 +23,6 @@ mod watching;
 mod welcoming;
 mod working;
 
+pub use arriving::some_events_come_untold;
 pub use moment::{Left, Moment};
 pub use taking::Caused;

@@ -7,6 +7,7 @@ ghost use Rattle.group_rules.specs.Life.{executed as executed_by, is_error, is_o
 ghost use Rattle.group_rules.specs.Member.{Member};
 ghost use Rattle.group_rules.specs.Queue.{pending};
 ghost use Rattle.group_rules.specs.Recovery.{pending_ask};
+ghost use Rattle.group_rules.specs.Sessions.{is_holding, phase};
 ghost use Rattle.group_rules.specs.Taking.{takes_slots};
 ghost use Rattle.member_backlog.specs.Standing.{uncommitted_of};
 ghost use Rattle.member_parts.specs.Committing.{IsPending};
@@ -14,7 +15,7 @@ ghost use Rattle.member_moment.specs.Standing.{Stands};
 ghost use Rattle.member_moment.specs.Telling.{is_arriving};
 
 use crate::moment::Moment;
-use gr_ids::{MemberState, Memory};
+use gr_ids::{MemberState, Memory, SessionId};
 use gtid_sets::GtidSet;
 use member_backlog::Uncommitted;
 
@@ -98,6 +99,13 @@ impl Moment {
         ensures { (base : Life) (a : Member) → Stands base a self.now → result ≡ (is_recovering (state_of a.life) && is_some (pending_ask a.life)) }
     {
         self.is_recovering() && self.pending_ask().is_some()
+    }
+
+    /// Whether the begin of this session is held.
+    pub fn is_held(&self, session: SessionId) -> bool
+        ensures { (base : Life) (a : Member) → Stands base a self.now → result ≡ is_holding (phase a.life session) }
+    {
+        self.tables.is_held(session)
     }
 
     /// A copy of what it has executed. Linear in its runs.
