@@ -140,7 +140,7 @@ impl Member {
             moment,
             earlier,
         } = self;
-        let remains = moment.into_remains()?;
+        let remains = moment.into_remains();
         earlier.with(remains)
     }
 
