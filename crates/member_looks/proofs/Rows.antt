@@ -23,7 +23,7 @@ use Rattle.local_sessions.proofs.Spelled.{has_more, has_new}
 -- an item below all has no row
 below_all : (i : Item) (rs : List Row) → ascend (i ∷ map item_of rs) ≡ true → row_listed rs i ≡ None
 below_all i [] h = refl
-below_all i (r ∷ rs) h = go (stands i r.item) (and_parts (item_lt i r.item) (ascend (r.item ∷ map item_of rs)) h)
+below_all i (r ∷ rs) h = go (stands i r.item) (and_parts (item_lt i r.item) (ascend (r.item ∷ map item_of rs)) h) (below_all i rs)
   where
     next : (ss : List Row) → item_lt i r.item ≡ true → ascend (r.item ∷ map item_of ss) ≡ true → ascend (i ∷ map item_of ss) ≡ true
     next [] l k = refl
@@ -31,10 +31,10 @@ below_all i (r ∷ rs) h = go (stands i r.item) (and_parts (item_lt i r.item) (a
         let p = and_parts (item_lt r.item s.item) (ascend (s.item ∷ map item_of ss)) k in
         ap (λ b. b && ascend (s.item ∷ map item_of ss)) (item_lt_trans i r.item s.item l p.0) ∙ p.1
 
-    go : Stands i r.item → (item_lt i r.item ≡ true) × (ascend (r.item ∷ map item_of rs) ≡ true) → row_listed (r ∷ rs) i ≡ None
-    go (Below a b c d) p = rw b (below_all i rs (next rs p.0 p.1))
-    go (Same a b c d) p = absurd (false≢true (sym a ∙ p.0))
-    go (Above a b c d) p = absurd (false≢true (sym a ∙ p.0))
+    go : Stands i r.item → (item_lt i r.item ≡ true) × (ascend (r.item ∷ map item_of rs) ≡ true) → (ascend (i ∷ map item_of rs) ≡ true → row_listed rs i ≡ None) → row_listed (r ∷ rs) i ≡ None
+    go (Below a b c d) p f = rw b (f (next rs p.0 p.1))
+    go (Same a b c d) p f = absurd (false≢true (sym a ∙ p.0))
+    go (Above a b c d) p f = absurd (false≢true (sym a ∙ p.0))
 
 first_listed : (r : Row) (rs : List Row) → row_listed (r ∷ rs) r.item ≡ Some r.value
 first_listed r rs = rw (item_eq_itself r.item) refl
@@ -51,7 +51,7 @@ pub same_lists : (xs ys : List Row) → ascend (map item_of xs) ≡ true → asc
 same_lists [] [] h k f = refl
 same_lists [] (y ∷ ys) h k f = absurd (let z : None ≡ Some y.value = f y.item ∙ first_listed y ys in cc)
 same_lists (x ∷ xs) [] h k f = absurd (let z : Some x.value ≡ None = sym (first_listed x xs) ∙ f x.item in cc)
-same_lists (x ∷ xs) (y ∷ ys) h k f = go (stands x.item y.item)
+same_lists (x ∷ xs) (y ∷ ys) h k f = go (stands x.item y.item) (same_lists xs ys (ascend_tail x.item (map item_of xs) h) (ascend_tail y.item (map item_of ys) k))
   where
     rest : x.item ≡ y.item → (i : Item) → row_listed xs i ≡ row_listed ys i
     rest s i = by_item (item_eq i x.item) refl
@@ -62,15 +62,15 @@ same_lists (x ∷ xs) (y ∷ ys) h k f = go (stands x.item y.item)
             below_all i xs (subst (λ j. ascend (j ∷ map item_of xs) ≡ true) (sym at) h) ∙ sym (below_all i ys (subst (λ j. ascend (j ∷ map item_of ys) ≡ true) (sym (at ∙ s)) k))
         by_item false e = sym (behind i x xs e) ∙ (f i ∙ behind i y ys (ap (item_eq i) (sym s) ∙ e))
 
-    go : Stands x.item y.item → x ∷ xs ≡ y ∷ ys
-    go (Below a b c d) = absurd (let z : Some x.value ≡ None = sym (first_listed x xs) ∙ (f x.item ∙ below_all x.item (y ∷ ys) (lower x.item y ys a k)) in cc)
-    go (Above a b c d) = absurd (let z : Some y.value ≡ None = sym (first_listed y ys) ∙ (sym (f y.item) ∙ below_all y.item (x ∷ xs) (lower y.item x xs c h)) in cc)
-    go (Same a b c d) =
+    go : Stands x.item y.item → (((i : Item) → row_listed xs i ≡ row_listed ys i) → xs ≡ ys) → x ∷ xs ≡ y ∷ ys
+    go (Below a b c d) g = absurd (let z : Some x.value ≡ None = sym (first_listed x xs) ∙ (f x.item ∙ below_all x.item (y ∷ ys) (lower x.item y ys a k)) in cc)
+    go (Above a b c d) g = absurd (let z : Some y.value ≡ None = sym (first_listed y ys) ∙ (sym (f y.item) ∙ below_all y.item (x ∷ xs) (lower y.item x xs c h)) in cc)
+    go (Same a b c d) g =
         let s : x.item ≡ y.item = item_eq_same x.item y.item b in
         let both : Some x.value ≡ Some y.value = sym (first_listed x xs) ∙ (f x.item ∙ (ap (row_listed (y ∷ ys)) s ∙ first_listed y ys)) in
         let v : x.value ≡ y.value = cc in
         let first : x ≡ y = λ n. record { item = s n; value = v n } in
-        ap (λ r. r ∷ xs) first ∙ ap (λ rs. y ∷ rs) (same_lists xs ys (ascend_tail x.item (map item_of xs) h) (ascend_tail y.item (map item_of ys) k) (rest s))
+        ap (λ r. r ∷ xs) first ∙ ap (λ rs. y ∷ rs) (g (rest s))
 
 -- ---- the rows that the rules list
 
@@ -144,32 +144,35 @@ module _ (e : Gtids) (i : Item) where
 
   changed_of : (cs : List Change) (r : Option (List ℕ)) (is : List Item) → IsOf r is → IsOf (changed_row i r cs) (changed_items cs is)
   changed_of [] r is f h = f h
-  changed_of (c ∷ cs) r is f h = go (item_eq c.item i) refl
+  changed_of (c ∷ cs) r is f h = go (item_eq c.item i) refl (λ u. changed_of cs u (with_item is c.item))
     where
-      go : (b : Bool) → item_eq c.item i ≡ b → has_item (changed_items (c ∷ cs) is) i ≡ true
-      go true q =
+      go : (b : Bool) → item_eq c.item i ≡ b → ((u : Option (List ℕ)) → IsOf u (with_item is c.item) → IsOf (changed_row i u cs) (changed_items cs (with_item is c.item)))
+          → has_item (changed_items (c ∷ cs) is) i ≡ true
+      go true q g =
           let here : has_item (with_item is c.item) i ≡ true = subst (λ j. has_item (with_item is c.item) j ≡ true) (item_eq_same c.item i q) (has_new is c.item) in
-          changed_of cs (row_after c.what) (with_item is c.item) (λ s. here) (rw (changed_row, q) at h)
-      go false q = changed_of cs r (with_item is c.item) (λ s. has_more is c.item i (f s)) (rw (changed_row, q) at h)
+          g (row_after c.what) (λ s. here) (rw (changed_row, q) at h)
+      go false q g = g r (λ s. has_more is c.item i (f s)) (rw (changed_row, q) at h)
 
   certs_of : (cs : List Cert) (r : Option (List ℕ)) (is : List Item) → IsOf r is → IsOf (row_by i e r cs) (cert_items cs is)
   certs_of [] r is f h = f h
-  certs_of (c ∷ cs) r is f h = go (has e c.gtid) refl
+  certs_of (c ∷ cs) r is f h = go (has e c.gtid) refl (λ u. certs_of cs u (changed_items c.txn.changes is))
     where
-      go : (b : Bool) → has e c.gtid ≡ b → has_item (cert_items (c ∷ cs) is) i ≡ true
-      go true q = certs_of cs (changed_row i r c.txn.changes) (changed_items c.txn.changes is) (changed_of c.txn.changes r is f) (rw (row_by, q) at h)
-      go false q = certs_of cs r (changed_items c.txn.changes is) (λ s. more_changed c.txn.changes is (f s)) (rw (row_by, q) at h)
+      go : (b : Bool) → has e c.gtid ≡ b → ((u : Option (List ℕ)) → IsOf u (changed_items c.txn.changes is) → IsOf (row_by i e u cs) (cert_items cs (changed_items c.txn.changes is)))
+          → has_item (cert_items (c ∷ cs) is) i ≡ true
+      go true q g = g (changed_row i r c.txn.changes) (changed_of c.txn.changes r is f) (rw (row_by, q) at h)
+      go false q g = g r (λ s. more_changed c.txn.changes is (f s)) (rw (row_by, q) at h)
 
   writes_of : (ws : List OfflineWrite) (r : Option (List ℕ)) (is : List Item) → IsOf r is → IsOf (offline_row i e r ws) (written_items ws is)
   writes_of [] r is f h = f h
-  writes_of (w ∷ ws) r is f h = go (item_eq w.item i && has e w.gtid) refl
+  writes_of (w ∷ ws) r is f h = go (item_eq w.item i && has e w.gtid) refl (λ u. writes_of ws u (with_item is w.item))
     where
-      go : (b : Bool) → (item_eq w.item i && has e w.gtid) ≡ b → has_item (written_items (w ∷ ws) is) i ≡ true
-      go true q =
+      go : (b : Bool) → (item_eq w.item i && has e w.gtid) ≡ b → ((u : Option (List ℕ)) → IsOf u (with_item is w.item) → IsOf (offline_row i e u ws) (written_items ws (with_item is w.item)))
+          → has_item (written_items (w ∷ ws) is) i ≡ true
+      go true q g =
           let same : w.item ≡ i = item_eq_same w.item i (and_parts (item_eq w.item i) (has e w.gtid) q).0 in
           let here : has_item (with_item is w.item) i ≡ true = subst (λ j. has_item (with_item is w.item) j ≡ true) same (has_new is w.item) in
-          writes_of ws (Some w.row) (with_item is w.item) (λ s. here) (rw (offline_row, q) at h)
-      go false q = writes_of ws r (with_item is w.item) (λ s. has_more is w.item i (f s)) (rw (offline_row, q) at h)
+          g (Some w.row) (λ s. here) (rw (offline_row, q) at h)
+      go false q g = g r (λ s. has_more is w.item i (f s)) (rw (offline_row, q) at h)
 
 -- ---- both
 

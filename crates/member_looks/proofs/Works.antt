@@ -40,11 +40,11 @@ body_is a qs p w = bodies_in (was_done a.life) p (queue a.life a.me.inc) qs (sta
 abbrev first_place : List QueuedPlace → Option ℕ
 first_place qs = option_map (λ (q : QueuedPlace). q.place) (find (λ (q : QueuedPlace). not q.done) qs)
 
-first_of : List Cert → Option ℕ
+abbrev pub first_of : List Cert → Option ℕ
 first_of [] = None
 first_of (c ∷ cs) = Some c.place
 
-firsts : (l : Life) (cs : List Cert) → first_place (map {A = Cert} (λ c. record { place = c.place; done = was_done l c.place }) cs) ≡ first_of (waiting l cs)
+pub firsts : (l : Life) (cs : List Cert) → first_place (map {A = Cert} (λ c. record { place = c.place; done = was_done l c.place }) cs) ≡ first_of (waiting l cs)
 firsts l [] = refl
 firsts l (c ∷ cs) = go (was_done l c.place) refl (firsts l cs)
   where
