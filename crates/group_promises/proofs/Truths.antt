@@ -4,20 +4,23 @@ use Rattle.gr_ids.specs.Names.{bytes_eq, inc_eq}
 use Rattle.gr_ids.specs.declared.names.Gtid.{Gtid}
 use Rattle.gr_ids.specs.declared.names.Inc.{Inc}
 use Rattle.gr_ids.specs.declared.levels.MemberState.TheVariants.{Online}
+use Rattle.node_rules.specs.Lists.{In}
 use Rattle.node_rules.proofs.Incs.{inc_is}
 use Rattle.group_rules.specs.Events.{Did, Founds, Starts, Came, Made, Took, Skips, Done, Committed, Is, Gave, Answered, Begun, Changed, Replied, Called, AsksCommit, Ends, Enters, Restores, AskFails, Hears, Ticks, Works, Calls, Operates, Life, Setup}
 use Rattle.group_rules.specs.Legal.{IsPast}
 use Rattle.group_rules.specs.Rows.{known}
-use Rattle.group_rules.specs.World.{Past, Does, Writes, Halts, life_in, world_after}
-use Rattle.group_runs.specs.Runs.{IsDone, EveryRun}
-use Rattle.group_runs.specs.Servers.{IsFounding, IsWritten, OfServers, EveryRunOfServers}
+use Rattle.group_rules.specs.World.{Past, Does, Writes, Halts, Move, life_in, world_after}
+use Rattle.group_runs.specs.Runs.{IsDone, IsSetup, EveryRun, stored_in}
+use Rattle.group_runs.specs.Servers.{IsFounding, IsMove, IsWritten, OfServers, EveryRunOfServers}
 use Rattle.group_order.specs.OneLog.{Follows, LogOver, EveryRunHasOne}
 use Rattle.group_order.proofs.Nexts.{past_self, past_of, did_past}
-use Rattle.group_legal.specs.OwnRanges.{ReadBack}
+use Rattle.group_legal.specs.OwnRanges.{MadeInRange, ReadBack}
+use Rattle.group_legal.specs.Ranges.{HasSmallNumbers}
 use Rattle.group_legal.proofs.Told.{Spelled}
 use Rattle.group_legal.proofs.Takers.{GiveTells}
 use Rattle.group_legal.proofs.Points.{did_here}
 use Rattle.group_legal.proofs.Owners.{pasts_compare, founding_past, written_past}
+use Rattle.group_legal.proofs.Knowing.{of_group}
 use Rattle.group_legal.proofs.Runs.{VerdictsAgree}
 use Rattle.member_truth.specs.Truth.{IsTrueDid, IsTrue, Rise}
 use Rattle.group_promises.specs.Promises.{EveryHistoryIsTrue, IsApart, ServersCommitForTheGroup}
