@@ -117,8 +117,8 @@ module _ (runs : EveryRun) (writes : EveryRunOfServers) (logs : EveryRunHasOne) 
   servers = writes ms t e setup moves
 
   module _ (p : Past) (k : IsPast p w) (small : HasSmallNumbers p) (ranges : MadeInRange p) where
-    pub ran : IsPast servers.founded.past p → Ran t p
-    ran h = record {
+    ran_to : IsPast servers.founded.past p → Ran t p
+    ran_to h = record {
       setup = setup;
       over = over_past t w p k (logs ms t e setup).parts;
       done = did_past (IsDone t) w p (runs ms t e setup).done k;
@@ -137,13 +137,13 @@ module _ (runs : EveryRun) (writes : EveryRunOfServers) (logs : EveryRunHasOne) 
     true_at : (i : Inc) → IsTrue t i (life_in p i)
     true_at i = elim (pasts_compare p servers.founded.past w k servers.founded.earlier) [
       | inl h ↦ (founding_true t p (founding_past servers.founded.past p h servers.founded.founding) i).0
-      | inr h ↦ is_true t p (ran h) i
+      | inr h ↦ is_true t p (ran_to h) i
     ]
 
   -- what a server committed is of the list, whose GTIDs have the group's UUID
   committed_apart : HasSmallNumbers w → MadeInRange w → (n : ℕ) (u : List ℕ) → bytes_eq u t.limits.group ≡ false → IsApart u (stored_in w n)
   committed_apart small ranges n u other c m =
-      let r : Ran t w = ran w (past_self w) small ranges servers.founded.earlier in
+      let r : Ran t w = ran_to w (past_self w) small ranges servers.founded.earlier in
       let y = (ran.knows t w r w (past_self w)).stocks n in
       let d = y.listed c m in
       let group : c.gtid.source ≡ t.limits.group = ap (λ (g : Gtid). g.source) d.2.gtid ∙ of_group t (ran.list_in t w r) d.0 d.1 in
