@@ -2,3 +2,7 @@ pub mod Sites
 pub mod Standing
 pub mod Events
 pub mod Running
+pub mod Changing
+pub mod Founding
+pub mod Refusing
+pub mod Seen

@@ -1,0 +1,3 @@
+mod Free
+mod Stopped
+mod Written
