@@ -35,7 +35,7 @@ module _ (base : Life) (a : Member) (x : Moment) (st : Stands base a x) where
   leads_so w is e k =
       ap (λ v. leads_by_rank v.me v.watch is) e ∙ (lead_is is ∙ ap (λ js. leads_by_rank a.me.inc (watch_of a) js) (k ∙ ap online_incs st.rest.parts.list.view))
 
-  suspect_is : (i : Inc) → suspects x.parts.watch.me x.parts.watch.watch i ≡ suspects a.me.inc (watch_of a) i
+  pub suspect_is : (i : Inc) → suspects x.parts.watch.me x.parts.watch.watch i ≡ suspects a.me.inc (watch_of a) i
   suspect_is i =
       let f = st.rest.parts.watch in
       ap (λ j. suspects j x.parts.watch.watch i) f.is_me ∙ (ap (λ w. suspects a.me.inc w i) f.watch ∙ same_suspects a.me.inc (watch_of a) i)

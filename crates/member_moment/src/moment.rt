@@ -80,6 +80,13 @@ impl Moment {
         &self.parts
     }
 
+    /// Its tables.
+    pub fn tables(&self) -> &MemberTables
+        ensures { result.now ≡ self.now.tables }
+    {
+        &self.tables
+    }
+
     /// The identity of its next own value. Refused as want of memory above 2^64 - 1.
     pub fn next_id(&self) -> Result<ValueId, Memory>
         ensures { IfOk result (λ id. (base : Life) (a : AnyMember) → Stands base a self.now → id ≡ next_of a) }
