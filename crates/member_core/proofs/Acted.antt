@@ -1,6 +1,6 @@
 -- The action of a step, and the whole step.
-use Rattle.std.proofs.Common.{◌≡◌, ◌++◌, ℕ, Bool, true, false, Option, Some, None, List, [], ◌∷◌, length, map, reverse, take, refl, sym, ap, ◌∙◌, subst}
-use Rattle.group_rules.specs.Events.{Came, Event, Hears, Ticks, Works, Calls, Operates, Starts, Life, Replied, Setup, Stored, marks_of}
+use Rattle.std.proofs.Common.{◌≡◌, ◌-◌, ◌++◌, ℕ, Bool, true, false, Option, Some, None, [], ◌∷◌, length, map, reverse, take, refl, sym, ap, ◌∙◌, subst}
+use Rattle.group_rules.specs.Events.{Came, Event, Ticks, Starts, Life, Setup, Stored, marks_of}
 use Rattle.group_rules.specs.Histories.{arranged}
 use Rattle.group_rules.specs.Life.{is_error, state, stored}
 use Rattle.group_rules.specs.Member.{Member, push}

@@ -1,11 +1,10 @@
 -- Messages that come.
 use Rattle.std.proofs.Common.{◌≡◌, ℕ, Bool, true, false, None, refl, sym, ap, ◌∙◌, subst}
 use Rattle.std.specs.Prelude.{◌==◌}
-use Rattle.gr_ids.specs.declared.names.Inc.{Inc}
 use Rattle.slot_values.specs.declared.value.Joiner.{Joiner}
 use Rattle.slot_values.specs.declared.value.Value.{Value}
 use Rattle.slot_values.specs.declared.value.What.{What}
-use Rattle.slot_values.specs.declared.value.What.TheVariants.{Add, Noop, Remove, Body as Says}
+use Rattle.slot_values.specs.declared.value.What.TheVariants.{Add}
 use Rattle.paxos_forms.specs.declared.message.Message.{Message}
 use Rattle.paxos_forms.specs.declared.message.Wire.{Wire}
 use Rattle.paxos_forms.specs.declared.message.Wire.TheVariants.{Prepare, Promise, Accept, Accepted, Learn, Offer, Welcome as Greet, Ask as Asks, Give as Gives, Alive, Gone}
@@ -19,7 +18,7 @@ use Rattle.member_ranges.specs.Hearing.{is_welcome}
 use Rattle.member_moment.specs.declared.moment.Moment.{Moment}
 use Rattle.member_moment.specs.Doing.{Does, IsKept}
 use Rattle.member_moment.specs.Standing.{Stands}
-use Rattle.member_core.specs.Hearing.{asks_a_vote, hear, hear_checked, hear_fallen, message_of}
+use Rattle.member_core.specs.Hearing.{asks_a_vote, hear, hear_fallen, message_of}
 
 -- by what it says
 pub as_said : (m : Message) (w : Wire) (x y : Moment) → m.wire ≡ w → Does (hear (message_of m.from m.to w)) x y → Does (hear m) x y

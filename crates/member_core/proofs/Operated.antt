@@ -7,21 +7,19 @@ use Rattle.gr_ids.specs.declared.names.ValueId.{ValueId}
 use Rattle.name_forms.specs.Incs.{IsInc}
 use Rattle.gtid_sets.specs.Sets.{Gtids}
 use Rattle.slot_values.specs.declared.value.What.TheVariants.{Remove}
-use Rattle.txn_forms.specs.declared.body.Body.{Body}
 use Rattle.txn_forms.specs.declared.body.Body.TheVariants.{Executed}
 use Rattle.node_rules.specs.Node.{Node}
 use Rattle.node_rules.specs.declared.event.PaxosEvent.TheVariants.{Campaign as Campaigns}
 use Rattle.group_rules.specs.declared.marks.Reply.TheVariants.{Ballot as AtBallot, NotOnline as IsNotOnline, Sent}
 use Rattle.group_rules.specs.declared.requests.Operator.{Operator}
-use Rattle.group_rules.specs.declared.requests.Operator.TheVariants.{Campaign, Leave, Tell}
+use Rattle.group_rules.specs.declared.requests.Operator.TheVariants.{Leave, Tell}
 use Rattle.group_rules.specs.Events.{Life, Replied}
 use Rattle.group_rules.specs.Life.{executed, is_recovering, is_up, state}
-use Rattle.group_rules.specs.Member.{Member, at_node, next_id, own, own_body, push}
+use Rattle.group_rules.specs.Member.{Member, at_node, next_id, own, push}
 use Rattle.group_rules.specs.Steps.{if_online, leave, operate, reply_ballot, reply_sent}
-use Rattle.member_truth.specs.Growing.{Grows}
 use Rattle.member_truth.proofs.Grown.{promised, pushes}
 use Rattle.member_moment.specs.declared.moment.Moment.{Moment}
-use Rattle.member_moment.specs.Doing.{Does, DoesIf, IsKept}
+use Rattle.member_moment.specs.Doing.{Does, IsKept}
 use Rattle.member_moment.specs.Standing.{Stands}
 use Rattle.member_moment.proofs.Doing.{does_same}
 use Rattle.member_core.specs.Operating.{refuse, send_body}

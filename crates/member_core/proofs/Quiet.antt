@@ -1,14 +1,12 @@
 -- What a call, a point and the slots leave: nothing comes, and only a call begins.
-use Rattle.std.proofs.Common.{append_assoc, ◌≡◌, ℕ, zero, suc, ◌^◌, Bool, true, false, Option, Some, None, List, [], ◌∷◌, ◌++◌, length, refl, sym, ap, ◌∙◌}
+use Rattle.std.proofs.Common.{append_assoc, ◌≡◌, ℕ, zero, suc, ◌^◌, Bool, true, false, Option, Some, None, List, [], ◌∷◌, ◌++◌, refl, sym, ap, ◌∙◌}
 use Rattle.gr_ids.specs.declared.names.Inc.{Inc}
 use Rattle.gr_ids.specs.declared.names.Gtid.{Gtid}
 use Rattle.gr_ids.specs.declared.names.ValueId.{ValueId}
-use Rattle.gr_ids.specs.Names.{bytes_eq, id_eq}
+use Rattle.gr_ids.specs.Names.{id_eq}
 use Rattle.gr_ids.specs.declared.levels.Level.{Level}
-use Rattle.gr_ids.specs.declared.levels.MemberState.TheVariants.{Error, Recovering}
-use Rattle.gtid_sets.specs.Sets.{Gtids}
+use Rattle.gr_ids.specs.declared.levels.MemberState.TheVariants.{Error}
 use Rattle.key_items.specs.declared.change.Change.{Change}
-use Rattle.key_items.specs.declared.change.ChangeKind.{ChangeKind}
 use Rattle.key_items.specs.declared.change.ChangeKind.TheVariants.{Insert as Inserts, Update as Updates, Delete as Deletes}
 use Rattle.slot_values.specs.declared.value.Value.{Value}
 use Rattle.slot_values.specs.declared.value.What.{What}
@@ -19,48 +17,36 @@ use Rattle.slot_values.specs.Log.{Turns}
 use Rattle.txn_forms.specs.Bodies.{body_bytes}
 use Rattle.txn_forms.specs.declared.body.Body.{Body}
 use Rattle.txn_forms.specs.declared.body.Body.TheVariants.{Txn as Writes, Prepared, Sync, Executed, Online as Arrives, Mode as Switches, Primary as Appoints, Part as PartOf}
-use Rattle.txn_forms.specs.declared.body.ModeChange.TheVariants.{Multi as ToMulti, Single as ToSingle}
 use Rattle.txn_forms.specs.declared.body.Part.{Part}
-use Rattle.std.specs.Prelude.{◌==◌, ◌&&◌, ◌||◌, is_some}
+use Rattle.std.specs.Prelude.{◌==◌, ◌&&◌, ◌||◌}
 use Rattle.member_core.specs.Acting.{caller_of, hold_by}
 use Rattle.txn_forms.specs.declared.body.Txn.{Txn}
 use Rattle.paxos_forms.specs.declared.message.Message.{Message}
-use Rattle.paxos_forms.specs.declared.message.Wire.{Wire}
-use Rattle.paxos_forms.specs.declared.message.Wire.TheVariants.{Prepare, Promise, Accept, Accepted, Learn, Offer, Welcome as Greet, Ask as Asks, Give as Gives, Alive, Gone}
-use Rattle.paxos_forms.specs.declared.welcome.Welcome.{Welcome}
-use Rattle.paxos_forms.specs.declared.recovery.Give.{Give}
 use Rattle.node_rules.specs.Node.{Node, Effect}
 use Rattle.node_rules.specs.Step.{node_step}
-use Rattle.node_rules.specs.declared.event.PaxosEvent.TheVariants.{Heard, Campaign as Campaigns, Propose, Tick}
+use Rattle.node_rules.specs.declared.event.PaxosEvent.TheVariants.{Propose}
 use Rattle.node_rules.specs.declared.taken.Taken.{Taken}
 use Rattle.node_rules.specs.Taking.{take}
 use Rattle.group_rules.specs.declared.requests.Request.{Request}
 use Rattle.group_rules.specs.declared.requests.Request.TheVariants.{Begin, Get, Insert, Update, Delete, Commit, Rollback}
-use Rattle.group_rules.specs.declared.requests.Operator.{Operator}
-use Rattle.group_rules.specs.declared.requests.Operator.TheVariants.{Campaign, Tell, Leave, SetPrimary, Single as SetSingle, Multi as SetMulti, AskDonor, DonorFailed, Finish}
 use Rattle.group_rules.specs.declared.answers.Holder.{Holder}
 use Rattle.group_rules.specs.declared.answers.Answer.{Answer}
 use Rattle.group_rules.specs.declared.answers.Answer.TheVariants.{Conflict as ConflictWith, Held, MemberLeft, NotOnline}
-use Rattle.group_rules.specs.declared.marks.Reply.TheVariants.{NoAskPending, Failed, NotQueued, AlreadyDone}
 use Rattle.group_rules.specs.declared.marks.Cause.{Cause}
-use Rattle.group_rules.specs.declared.marks.Cause.TheVariants.{Welcomed}
 use Rattle.group_rules.specs.declared.marks.Effect.{Effect as Outcome}
 use Rattle.group_rules.specs.declared.marks.Effect.TheVariants.{Positive, Conflict, Plain, Void, Unread}
 use Rattle.group_rules.specs.Events.{Answered, Begun, Changed, Ends, Founds, Made, Restores, Skips, Starts, Did, Done, Enters, Came, Called, AsksCommit, Gave, AskFails, Replied, Took, Is, Committed, Event, Hears, Ticks, Works, Calls, Operates, Cert, Entry, Life}
-use Rattle.group_rules.specs.Life.{entry_at, executed, is_error, is_recovering, is_up, state, ticks, view}
-use Rattle.group_rules.specs.View.{online_incs, seated}
-use Rattle.group_rules.specs.Watch.{Watch, leads_by_rank, watch}
-use Rattle.group_rules.specs.Member.{Member, push, by_node, at_node, own, own_body, answer, last_answer, for_each, leave_session, fall, unanswered, waiting_as}
-use Rattle.group_rules.specs.Queue.{is_done, is_own, pending, at_place, queue}
+use Rattle.group_rules.specs.Life.{is_error, is_up, state}
+use Rattle.group_rules.specs.Member.{Member, push, by_node, own, answer, last_answer, for_each, leave_session, fall, unanswered, waiting_as}
+use Rattle.group_rules.specs.Queue.{is_own, pending}
 use Rattle.group_rules.specs.Sessions.{is_holding, Phase, Free, Holding, Active, Asking, phase, sessions, Call, last_call}
 use Rattle.group_rules.specs.Keys.{holder}
 use Rattle.group_rules.specs.Parts.{cut}
-use Rattle.group_rules.specs.Calls.{misfit, is_read_only, read_only, state_then, txn_of, begin, send_sync, change_row, unless_locked, statement, own_part, ask_commit, send_txn, commit_bytes, commit_changes, in_transaction, without_transaction, by_phase, unless_killed, call}
-use Rattle.group_rules.specs.Welcomes.{greet, greet_by, hear_welcome}
-use Rattle.group_rules.specs.Recovery.{fail_ask, check_donor, check_ask, unless_self, ask_wire, ask_donor, donor_failed, give_at, restore, take_give, hear_give, pending_ask}
+use Rattle.group_rules.specs.Calls.{is_read_only, read_only, state_then, txn_of, begin, send_sync, change_row, unless_locked, statement, own_part, ask_commit, send_txn, commit_bytes, commit_changes, in_transaction, without_transaction, by_phase, unless_killed, call}
+use Rattle.group_rules.specs.Welcomes.{greet, greet_by}
 use Rattle.group_rules.specs.Points.{answer_commit, answer_own, commit_one, commit_all, prepare_one, prepare_all, begin_by, begin_one, begin_all, unless_pending, arrive, point}
 use Rattle.group_rules.specs.Taking.{answer_conflict, on_conflict, on_plain, causes, take_kept, entry_of, take_slot, next_slot, take_slots, propose, rounds, settle_slots}
-use Rattle.group_rules.specs.Steps.{hear_add, hear_wire, done_of, work, time_out_by, time_out, expel_one, campaign_if_due, look_after, tell_at, member_tick, tick_on, tick_once, reply_ballot, reply_sent, if_online, leave, operate, act_alive, hear_in_error, act_in_error, act, called_now, held_mark, step}
+use Rattle.group_rules.specs.Steps.{act, called_now, held_mark}
 
 -- nothing comes, and a begin is called only where it may be
 abbrev IsQuiet : Bool → Did → Type 0

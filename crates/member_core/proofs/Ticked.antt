@@ -1,6 +1,7 @@
 -- Ticks.
 use Rattle.std.proofs.Common.{◌≡◌, ◌+◌, ◌≤◌, ◌<◌, ℕ, suc, Bool, true, false, ◌&&◌, ◌||◌, Option, Some, None, List, [], ◌∷◌, drop, length, get_or, add-one, refl, sym, ap, ◌∙◌, subst, inl, inr}
-use Rattle.std.specs.Prelude.{◌%◌, ◌==◌}
+use Rattle.std.specs.Prelude.{◌%◌, ◌==◌, nat_le}
+use Rattle.group_rules.specs.declared.answers.Answer.TheVariants.{HoldTimeout}
 use Rattle.std.proofs.lemmas.Bool.{or_parts}
 use Rattle.std.proofs.lemmas.List.{drop_all}
 use Rattle.std.proofs.Math.Seq.{drop-cons}
@@ -21,17 +22,17 @@ use Rattle.group_rules.specs.Events.{Life}
 use Rattle.group_rules.specs.Life.{executed, is_error, is_offline, is_up, state, ticks, view}
 use Rattle.group_rules.specs.Member.{Member, at_node, fall, for_each, last_answer, own, own_body, send}
 use Rattle.group_rules.specs.Sessions.{Call, is_holding, last_call, phase, sessions}
-use Rattle.group_rules.specs.Steps.{add_of, campaign_if_due, expel_one, look_after, member_tick, needs_leader, tell_at, tick_on, tick_once, time_out, time_out_by}
+use Rattle.group_rules.specs.Steps.{add_of, campaign_if_due, expel_one, look_after, needs_leader, tell_at, tick_on, tick_once, time_out, time_out_by}
 use Rattle.group_rules.specs.View.{seated}
 use Rattle.group_rules.specs.Watch.{Watch, gives_up}
 use Rattle.member_truth.proofs.Grown.{by_act, either, expels_each, looks_after, promised, stays, tells, ticks_on}
 use Rattle.member_truth.specs.Growing.{Grows}
-use Rattle.member_ranges.specs.Ranges.{InRange, is_outside}
+use Rattle.member_ranges.specs.Ranges.{InRange}
 use Rattle.member_moment.specs.declared.moment.Moment.{Moment}
 use Rattle.member_moment.specs.Doing.{Does, DoesIf, IsKept}
 use Rattle.member_moment.specs.Standing.{Stands}
 use Rattle.member_moment.specs.Watching.{expels, leads, watch_of}
-use Rattle.member_moment.proofs.Doing.{does_same, does_unless, does_where}
+use Rattle.member_moment.proofs.Doing.{does_same}
 use Rattle.member_core.specs.Points.{IsWell}
 use Rattle.member_core.specs.Ticking.{IsInside, campaign_now, expel_all, look_now, tell_now, tick_inside}
 
@@ -83,20 +84,29 @@ alike_where false p q = q
 alike_then : {a b c : Member} → Alike a b → Alike b c → Alike a c
 alike_then p q = record { watch = q.watch ∙ p.watch; passed = q.passed ∙ p.passed }
 
+alike_same : (a : Member) → Alike a a
+alike_same a = record { watch = refl; passed = refl }
+
+alike_own : (i : Inc) (a : Member) → Alike a (own (Remove i) None a)
+alike_own i a = record { watch = refl; passed = refl }
+
+alike_node : (a : Member) → Alike a (at_node Campaigns a)
+alike_node a = record { watch = refl; passed = refl }
+
 alike_one : (w : Watch) (i : Inc) (a : Member) → Alike a (expel_one w i a)
-alike_one w i a = alike_where _ (record { watch = refl; passed = refl }) (record { watch = refl; passed = refl })
+alike_one w i a = alike_where _ (alike_own i a) (alike_same a)
 
 alike_each : (w : Watch) (is : List Inc) (a : Member) → Alike a (for_each (expel_one w) is a)
-alike_each w [] a = record { watch = refl; passed = refl }
+alike_each w [] a = alike_same a
 alike_each w (i ∷ is) a = alike_then (alike_one w i a) (alike_each w is (expel_one w i a))
 
 alike_campaign : (w : Watch) (a : Member) → Alike a (campaign_if_due w a)
-alike_campaign w a = alike_where _ (record { watch = refl; passed = refl }) (record { watch = refl; passed = refl })
+alike_campaign w a = alike_where _ (alike_node a) (alike_same a)
 
 alike_after : (w : Watch) (a : Member) → Alike a (look_after w a)
 alike_after w a =
     let is : List Inc = seated (view a.setup a.life).seats in
-    alike_where _ (alike_then (alike_each w is a) (alike_campaign w (for_each (expel_one w) is a))) (record { watch = refl; passed = refl })
+    alike_where _ (alike_then (alike_each w is a) (alike_campaign w (for_each (expel_one w) is a))) (alike_same a)
 
 -- ---- all who are
 
@@ -225,10 +235,10 @@ state_where a x y false p q = q
 
 state_by : (s : ℕ) (o : Option Call) (a : Member) → state (time_out_by s o a).life ≡ state a.life
 state_by s None a = refl
-state_by s (Some c) a = state_where a _ _ _ refl refl
+state_by s (Some c) a = state_where a (last_answer s (HoldTimeout c.limit) a) a (nat_le c.limit c.ticks) refl refl
 
 state_one : (s : ℕ) (a : Member) → state (time_out s a).life ≡ state a.life
-state_one s a = state_where a _ _ (is_holding (phase a.life s)) (state_by s (last_call a.life s) a) refl
+state_one s a = state_where a (time_out_by s (last_call a.life s) a) a (is_holding (phase a.life s)) (state_by s (last_call a.life s) a) refl
 
 state_each : (ss : List ℕ) (a : Member) → state (for_each time_out ss a).life ≡ state a.life
 state_each [] a = refl
