@@ -1,13 +1,11 @@
-mod Finding
-mod Stepped
-mod Moving
-mod Left
-mod Servers
-mod Results
-mod Own
-mod Walking
-mod Seen
-mod Posting
-mod Closing
-mod Idle
-mod Handed
+
+mod Still
+mod Altered
+mod Listed
+mod Declared
+mod Halted
+mod Begun
+mod Looking
+mod Refused
+mod Founded
+mod Applied

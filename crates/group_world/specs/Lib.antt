@@ -5,4 +5,3 @@ pub mod Running
 pub mod Changing
 pub mod Founding
 pub mod Refusing
-pub mod Seen
