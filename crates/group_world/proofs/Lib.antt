@@ -11,3 +11,6 @@ mod Posting
 mod Closing
 mod Idle
 mod Handed
+mod Parts
+mod Changed
+mod Working

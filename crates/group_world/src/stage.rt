@@ -12,7 +12,7 @@ use world_servers::{Servers, servers_are_those_of_the_world};
 use world_wire::Wire;
 
 /// The servers of a script, their members, and the messages sent, with what the present step has said.
-#[derive(Debug, Drop)]
+#[derive(Drop)]
 pub(crate) struct Stage {
     pub(crate) servers: Servers,
     pub(crate) sites: Sites,

@@ -8,7 +8,7 @@ use report_text::WorldFault;
 use std::alloc::Global;
 
 /// The servers of a script, their members, and the messages sent.
-#[derive(Debug, Drop)]
+#[derive(Drop)]
 pub struct World {
     stage: Stage,
     steps: u64,

@@ -1,8 +1,9 @@
--- Whatever play the world stood for, it stands for one from which the rest of the settling leads to the same.
-use Rattle.std.proofs.Common.{◌≡◌, ◌-◌}
+-- The rest of the settling leads to the same.
+use Rattle.std.proofs.Common.{◌-◌}
 use Rattle.group_rules.specs.Script.{Play, settle, settle_times}
 use Rattle.group_world.specs.Standing.{Along}
+use Rattle.group_world.proofs.Parts.{LeadsTo}
 use Rattle.group_world.proofs.stage.Stage.settle.Given as goal
 
 abbrev pub invariant-loop-delivered : goal.invariant-loop-delivered
-invariant-loop-delivered l = (y : Play) → Along y l.initial.self → (z : Play) × Along z l.self × (settle_times l.among (1048576 - l._delivered) z ≡ settle l.among y)
+invariant-loop-delivered l = (y : Play) → Along y l.initial.self → LeadsTo (settle_times l.among (1048576 - l._delivered)) (settle l.among y) l.self
