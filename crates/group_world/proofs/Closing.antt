@@ -5,10 +5,10 @@ use Rattle.group_rules.specs.Names.{Request, Commit, Rollback}
 use Rattle.group_rules.specs.Events.{Calls, Cert, Event, Ticks, Works}
 use Rattle.group_rules.specs.Member.{Member}
 use Rattle.group_rules.specs.Queue.{at_place, queue}
-use Rattle.group_rules.specs.Script.{Full, Play, body_at, deliver, drain_times, event, has_changed, least_worker, next_letter, once_end, once_rest, phase_of, plays, settle, settle_times, tick_times, waiting_at, work_by, work_least}
+use Rattle.group_rules.specs.Script.{Full, Play, body_at, deliver, drain, drain_times, event, has_changed, least_worker, next_letter, once_end, once_rest, phase_of, plays, settle, settle_times, tick_times, waiting_at, work_by, work_least}
 use Rattle.group_rules.specs.Sessions.{is_active}
 use Rattle.group_rules.specs.World.{Happens, Move, member_at}
-use Rattle.group_world.specs.Draining.{worked_one}
+use Rattle.group_world.specs.Draining.{worked_all, worked_one}
 use Rattle.world_wire.specs.declared.fault.WireFault.{WireFault}
 use Rattle.world_wire.specs.declared.fault.WireFault.TheVariants.{Full as IsFull, Memory as IsMemory}
 use Rattle.group_world.specs.Standing.{Closes}
@@ -49,6 +49,23 @@ settle_none ns (suc f) y h = rw (h, settle_times) refl
 
 pub settle_one : (ns : List ℕ) (f k : ℕ) (y : Play) → next_letter y.world ns 1 y.wire ≡ Some k → settle_times ns (suc f) y ≡ settle_times ns f (deliver k y)
 settle_one ns f k y h = rw (h, settle_times) refl
+
+pub settle_first : (ns : List ℕ) (y : Play) → settle_times ns 1048576 y ≡ settle ns y
+unfolding settle
+settle_first ns y = refl
+
+-- ---- draining, by turns
+
+pub drain_none : (f : ℕ) (y : Play) → least_worker y.world.servers ≡ None → drain_times f y ≡ y
+drain_none zero y h = refl
+drain_none (suc f) y h = rw (h, drain_times) refl
+
+pub drain_one : (f n : ℕ) (y : Play) → least_worker y.world.servers ≡ Some n → drain_times (suc f) y ≡ drain_times f (worked_one n y)
+drain_one f n y h = rw (h, drain_times) refl
+
+pub drain_first : (y : Play) → worked_all (settle [] y) ≡ drain y
+unfolding drain
+drain_first y = refl
 
 -- ---- what follows in a step
 

@@ -14,3 +14,5 @@ mod Handed
 mod Parts
 mod Changed
 mod Working
+mod Turns
+mod Fitting

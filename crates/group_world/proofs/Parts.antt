@@ -23,9 +23,3 @@ then_ends f g x m c p q y a = q (f y) (p y a)
 -- the first isn't done
 pub ends_then : (f g : Play → Play) (x : Stage) (c : WireFault) → Stays g → Ends f x c → Ends (λ y. g (f y)) x c
 ends_then f g x c s p y a = closes_on g s c (f y) (p y a)
-
--- ---- loops
-
--- what is left to do leads from where the world stands to this play
-abbrev pub LeadsTo : (Play → Play) → Play → Stage → Type 0
-LeadsTo f g x = (z : Play) × Along z x × (f z ≡ g)

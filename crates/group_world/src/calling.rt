@@ -48,7 +48,7 @@ impl Stage {
         ensures stands { OnOk result (Goes (does (Tick server count)) self.old self.new) }
         ensures full { IfErr result (Ends (does (Tick server count)) self.old) }
     {
-        for _ticked in 0..count {
+        for _ in 0..count {
             self.event(server, Event::Tick)?;
         }
         Ok(())

@@ -68,7 +68,7 @@ impl Stage {
         ensures stands { OnOk result (Goes worked_all self.old self.new) }
         ensures full { IfErr result (Ends worked_all self.old) }
     {
-        for _worked in 0..MOST_PLACES {
+        for _ in 0..MOST_PLACES {
             match self.sites.least_worker(self.alloc)? {
                 None => return Ok(()),
                 Some(server) => self.work_and_settle(server)?,
