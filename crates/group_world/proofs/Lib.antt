@@ -1,4 +1,3 @@
-
 mod Still
 mod Altered
 mod Listed
@@ -9,3 +8,21 @@ mod Looking
 mod Refused
 mod Founded
 mod Applied
+mod Finding
+mod Stepped
+mod Moving
+mod Left
+mod Servers
+mod Results
+mod Own
+mod Walking
+mod Seen
+mod Posting
+mod Closing
+mod Idle
+mod Handed
+mod Parts
+mod Changed
+mod Working
+mod Turns
+mod Fitting

@@ -5,3 +5,5 @@ pub mod Running
 pub mod Changing
 pub mod Founding
 pub mod Refusing
+pub mod Draining
+pub mod Changes

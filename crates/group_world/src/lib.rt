@@ -9,12 +9,14 @@ ghost use Rattle.group_world.specs.Standing.{IsWorld};
 ghost use Rattle.group_world.specs.declared.world.World.{World as Whole};
 
 mod applying;
+mod calling;
 mod declaring;
 mod founding;
 mod handing;
 mod leaving;
 mod looking;
 mod looking_wire;
+mod once;
 mod putting;
 mod refusing;
 mod reporting;
@@ -25,6 +27,7 @@ mod starting;
 mod stopping;
 mod uuids;
 mod wires;
+mod working;
 mod world;
 
 pub use world::World;

@@ -4,6 +4,7 @@ ghost use Rattle.group_rules.specs.Member.{Member as Rules};
 ghost use Rattle.group_rules.specs.Steps.{step};
 ghost use Rattle.group_rules.specs.World.{Server};
 ghost use Rattle.member_sketch.specs.Standing.{IsEvent, IsKept, IsMember, event_of};
+ghost use Rattle.group_world.specs.Draining.{has_work};
 ghost use Rattle.group_world.specs.Running.{inc_of};
 ghost use Rattle.group_world.specs.Sites.{HasMember, HasStepped, IsSite, IsTurn};
 
@@ -11,6 +12,7 @@ use gr_ids::{Inc, Memory};
 use kept_server::KeptServer;
 use member_sketch::{Event, Member, StepLeft};
 use plain_steps::steps_are_plain;
+use std::alloc::Global;
 
 /// Whether an incarnation of a server runs.
 #[derive(Drop)]
@@ -67,6 +69,18 @@ impl Site {
         match &self.stay {
             Stay::Stopped(_) => None,
             Stay::Running(member) => Some(member.inc()),
+        }
+    }
+}
+
+impl Site {
+    /// Whether its member has a place that waits for a worker.
+    pub(crate) fn has_work(&self, alloc: Global) -> Result<bool, Memory>
+        ensures { IfOk result (λ b. (s : Server) → IsSite s self.now → b ≡ has_work s.running) }
+    {
+        match &self.stay {
+            Stay::Stopped(_) => Ok(false),
+            Stay::Running(member) => Ok(member.least_work(alloc)?.is_some()),
         }
     }
 }

@@ -1,5 +1,6 @@
 // Where the servers stand.
 ghost use Rattle.std.specs.Prelude.{◌≡◌, [], List, IfOk, option_copied};
+ghost use Rattle.group_rules.specs.Script.{least_worker};
 ghost use Rattle.group_rules.specs.World.{Server, is_member, running_of};
 ghost use Rattle.group_world.specs.Running.{inc_of, running_incs};
 ghost use Rattle.member_sketch.specs.Standing.{IsEvent, event_of};
@@ -100,6 +101,22 @@ impl Sites {
             left = behind;
         }
         Ok(incs)
+    }
+}
+
+impl Sites {
+    /// The least server whose member has a place that waits for a worker.
+    pub(crate) fn least_worker(&self, alloc: Global) -> Result<Option<u8>, Memory>
+        ensures { IfOk result (λ o. (ss : List Server) → AreSites ss self.now → o ≡ least_worker ss) }
+    {
+        let mut left = self.list.as_slice();
+        while let Some((site, behind)) = left.split_first() {
+            if site.has_work(alloc)? {
+                return Ok(Some(site.number));
+            }
+            left = behind;
+        }
+        Ok(None)
     }
 }
 
