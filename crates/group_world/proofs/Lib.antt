@@ -26,3 +26,4 @@ mod Changed
 mod Working
 mod Turns
 mod Fitting
+mod Reported

@@ -7,3 +7,4 @@ pub mod Founding
 pub mod Refusing
 pub mod Draining
 pub mod Changes
+pub mod Applying
