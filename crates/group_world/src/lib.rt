@@ -29,6 +29,7 @@ mod uuids;
 mod wires;
 mod working;
 mod world;
+mod writing;
 
 pub use world::World;
 
