@@ -16,3 +16,4 @@ mod Changed
 mod Working
 mod Turns
 mod Fitting
+mod Once
