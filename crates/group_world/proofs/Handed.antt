@@ -1,6 +1,7 @@
 -- A member that runs takes an event: the world afterwards.
 use Rattle.std.proofs.Common.{◌≡◌, false, ℕ, Some, None, Option, refl, sym, ap, subst, ◌∙◌, ◌++◌, inl, inr, take, length, ◌-◌}
 use Rattle.std.specs.Prelude.{map}
+use Rattle.gtid_sets.specs.Canonical.{IsUuid}
 use Rattle.world_servers.specs.Naming.{declared_of}
 use Rattle.group_rules.specs.Events.{Event}
 use Rattle.group_rules.specs.Histories.{arranged}
@@ -13,7 +14,7 @@ use Rattle.world_wire.specs.declared.fault.WireFault.{WireFault}
 use Rattle.play_runs.specs.Runs.{IsRun, IsSafe, IsStepIn}
 use Rattle.group_world.specs.Events.{IsMoveOf, messages_in, said_by}
 use Rattle.group_world.specs.Sites.{IsTurn, StepsAt, after_step}
-use Rattle.group_world.specs.Standing.{Along, AreDeclared, Closes, Holds, IsDeclared, setup_in}
+use Rattle.group_world.specs.Standing.{Along, AreDeclared, Closes, Holds, setup_in}
 use Rattle.group_world.specs.declared.site.Turn.{Turn}
 use Rattle.group_world.specs.declared.stage.Stage.{Stage}
 use Rattle.group_world.proofs.Finding.{at_in}
@@ -68,14 +69,7 @@ module _ (safe : AllSafe) (m : Move) (n : ℕ) (e : Event) (y : Play) (x z : Sta
 
   declared : AreDeclared next.servers
   declared v h = elim (in_with v (after_step e s b) w.servers h) [
-    | inl q ↦ subst IsDeclared q (let d : IsDeclared s = a.holds.declared s (at_in n w.servers s r.at_it).0 in record {
-      number_above = d.number_above;
-      number_below = d.number_below;
-      uuid = d.uuid;
-      parts = d.parts;
-      small = d.small;
-      weight = d.weight;
-    })
+    | inl q ↦ subst (λ u. IsUuid u.uuid) q (a.holds.declared s (at_in n w.servers s r.at_it).0)
     | inr q ↦ a.holds.declared v q
   ]
 

@@ -4,3 +4,7 @@ pub mod Events
 pub mod Running
 pub mod Draining
 pub mod Changes
+pub mod Changing
+pub mod Founding
+pub mod Refusing
+pub mod Seen

@@ -1,5 +1,5 @@
 -- Where the servers of a world stand: whether an incarnation runs, and what a server keeps that none runs at.
-use Rattle.std.specs.Prelude.{◌≡◌, ◌<◌, ◌==◌, not, ℕ, Option, Some, None, List, [], ◌∷◌, map}
+use Rattle.std.specs.Prelude.{◌≡◌, ◌<◌, ◌==◌, nat_lt, not, ℕ, Option, Some, None, List, [], ◌∷◌, map}
 use Rattle.std.specs.List.{find, prefix_len}
 use Rattle.paxos_forms.specs.declared.message.Message.{Message}
 use Rattle.paxos_forms.specs.Messages.{IsMessage}
@@ -42,6 +42,10 @@ AreSites (s ∷ ss) (z ∷ zs) = IsSite s z × AreSites ss zs
 -- how many stand before the one of this number
 abbrev pub before : ℕ → List Site → ℕ
 before n zs = prefix_len (λ z. not (z.number == n)) zs
+
+-- how many have no greater number
+abbrev pub under : ℕ → List Site → ℕ
+under n zs = prefix_len (λ z. not (nat_lt n z.number)) zs
 
 -- the site of a server
 abbrev pub HasSite : Option Server → Option Site → Type 0

@@ -1,7 +1,5 @@
 -- What a world stands for, and what its calls say.
-use Rattle.std.specs.Prelude.{◌≡◌, ◌≤◌, ℕ, Bool, true, false, Option, Some, None, List, [], length, map}
-use Rattle.std.specs.List.{AllByRecursion}
-use Rattle.name_forms.specs.Ids.{last_u64}
+use Rattle.std.specs.Prelude.{◌≡◌, ◌≤◌, ℕ, Bool, true, false, Option, Some, None, List, [], map, option_map}
 use Rattle.gtid_sets.specs.Canonical.{IsUuid}
 use Rattle.paxos_forms.specs.declared.message.Message.{Message}
 use Rattle.paxos_forms.specs.Messages.{IsMessage}
@@ -26,17 +24,9 @@ use Rattle.group_world.specs.declared.world.World.{World as Whole}
 
 -- ---- the parts
 
--- what was declared of a server is within the ranges of a joiner
-pub record IsDeclared (s : Server) : Type 0 where
-  pub number_above : 1 ≤ s.number
-  pub number_below : s.number ≤ 32
-  pub uuid : IsUuid s.uuid
-  pub parts : length s.version ≡ 3
-  pub small : AllByRecursion (λ n. n ≤ last_u64) s.version
-  pub weight : s.weight ≤ 100
-
+-- their UUIDs are sixteen bytes
 abbrev pub AreDeclared : List Server → Type 0
-AreDeclared ss = (s : Server) → In s ss → IsDeclared s
+AreDeclared ss = (s : Server) → In s ss → IsUuid s.uuid
 
 abbrev pub setup_in : Option Founding → Option Setup
 setup_in None = None
@@ -98,9 +88,13 @@ pub record IsWorld (y : Play) (x : Whole) : Type 0 where
 abbrev pub steps_of : Whole → ℕ
 steps_of x = x.steps
 
+abbrev pub fault_as : WireFault → WorldFault
+fault_as (IsFull n b) = WireFull n b
+fault_as IsMemory = Memory
+
 -- the fault that every further step is answered
 abbrev pub fault_of : Whole → Option WorldFault
-fault_of x = x.fault
+fault_of x = option_map fault_as x.fault
 
 -- what a step that is done says
 abbrev pub IsSaid : List Said → Play → Type 0
@@ -131,3 +125,9 @@ is_refusal e = true
 abbrev pub is_spent : WorldFault → Bool
 is_spent (Spent steps) = true
 is_spent e = false
+
+-- the world is closed
+abbrev pub is_last : WorldFault → Bool
+is_last (WireFull messages bytes) = true
+is_last Memory = true
+is_last e = false

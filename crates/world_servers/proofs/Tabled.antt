@@ -10,7 +10,7 @@ use Rattle.world_servers.specs.declared.servers.DeclaredServer.{DeclaredServer}
 use Rattle.world_servers.specs.Naming.{AreOf, declared_of, declared_or, joiner_as, founder_in, founders_in, has_number, has_uuid, is_group_taken_in, is_taken_in, is_there, with_declared}
 
 -- one more server
-put_is : (ss : List Server) (s : Server) → with_declared (map declared_of ss) (declared_of s) ≡ map declared_of (with_server ss s)
+pub put_is : (ss : List Server) (s : Server) → with_declared (map declared_of ss) (declared_of s) ≡ map declared_of (with_server ss s)
 put_is [] s = refl
 put_is (x ∷ xs) s = go (x.number == s.number) (nat_lt s.number x.number) (put_is xs s)
   where
@@ -55,11 +55,11 @@ taken w xs n u h = or_last (is_there xs n) (has_uuid xs u) (is_default_of_other 
 pub group_taken : (w : World) (xs : List DeclaredServer) (g : List ℕ) → AreOf w xs → is_group_taken_in xs g ≡ is_group_taken g w
 group_taken w xs g h = ap (λ b. b || is_default_of_other g 0 32) (uuid_there w xs g h)
 
-abbrev option_of : Option Server → Option DeclaredServer
+abbrev pub option_of : Option Server → Option DeclaredServer
 option_of None = None
 option_of (Some s) = Some (declared_of s)
 
-found_is : (ss : List Server) (n : ℕ) → find (has_number n) (map declared_of ss) ≡ option_of (find (λ s. s.number == n) ss)
+pub found_is : (ss : List Server) (n : ℕ) → find (has_number n) (map declared_of ss) ≡ option_of (find (λ s. s.number == n) ss)
 found_is [] n = refl
 found_is (x ∷ xs) n = go (x.number == n) (found_is xs n)
   where
