@@ -1,3 +1,13 @@
+mod Still
+mod Altered
+mod Listed
+mod Declared
+mod Halted
+mod Begun
+mod Looking
+mod Refused
+mod Founded
+mod Applied
 mod Finding
 mod Stepped
 mod Moving
@@ -17,3 +27,4 @@ mod Working
 mod Turns
 mod Fitting
 mod Once
+mod Reported

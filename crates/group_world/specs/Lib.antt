@@ -7,4 +7,4 @@ pub mod Changes
 pub mod Changing
 pub mod Founding
 pub mod Refusing
-pub mod Seen
+pub mod Applying

@@ -15,7 +15,7 @@ use std::marker::Model;
 /// The declared servers, by ascending number, with what became of each.
 #[derive(Drop)]
 pub(crate) struct Sites {
-    list: Vec<Site>,
+    pub(crate) list: Vec<Site>,
 }
 
 impl Model for Sites {
@@ -121,7 +121,7 @@ impl Sites {
 }
 
 // Where the server stands; the length where it isn't there.
-fn place_of(list: &[Site], number: u8) -> usize
+pub(crate) fn place_of(list: &[Site], number: u8) -> usize
     ensures { result ≡ before number list.now }
 {
     for (k, site) in list.iter().enumerate() {
