@@ -1,6 +1,7 @@
 -- Each history is true.
-use Rattle.std.proofs.Common.{◌≡◌, inl, inr, Bool, true, false, [], ◌∷◌, refl, sym, subst}
-use Rattle.gr_ids.specs.Names.{inc_eq}
+use Rattle.std.proofs.Common.{◌≡◌, inl, inr, ℕ, Bool, true, false, Some, List, [], ◌∷◌, refl, sym, ap, subst, ◌∙◌}
+use Rattle.gr_ids.specs.Names.{bytes_eq, inc_eq}
+use Rattle.gr_ids.specs.declared.names.Gtid.{Gtid}
 use Rattle.gr_ids.specs.declared.names.Inc.{Inc}
 use Rattle.gr_ids.specs.declared.levels.MemberState.TheVariants.{Online}
 use Rattle.node_rules.proofs.Incs.{inc_is}
@@ -19,7 +20,7 @@ use Rattle.group_legal.proofs.Points.{did_here}
 use Rattle.group_legal.proofs.Owners.{pasts_compare, founding_past, written_past}
 use Rattle.group_legal.proofs.Runs.{VerdictsAgree}
 use Rattle.member_truth.specs.Truth.{IsTrueDid, IsTrue, Rise}
-use Rattle.group_promises.specs.Promises.{EveryHistoryIsTrue}
+use Rattle.group_promises.specs.Promises.{EveryHistoryIsTrue, IsApart, ServersCommitForTheGroup}
 use Rattle.group_promises.proofs.Ran.{Ran}
 use Rattle.group_promises.proofs.Ran as ran
 use Rattle.group_promises.proofs.Entries.{true_entry}
@@ -104,19 +105,16 @@ over_past t w p k x = record {
   agrees = λ q h. x.agrees q (past_of p q w k h);
 }
 
-pub every_history_true : EveryRun → EveryRunOfServers → EveryRunHasOne → Spelled → ReadBack → ((t : Setup) → GiveTells t) → ((t : Setup) → VerdictsAgree t) → EveryHistoryIsTrue
-every_history_true runs writes logs spelled reads tells verdicts ms t e setup moves p k small ranges i = elim (pasts_compare p servers.founded.past w k servers.founded.earlier) [
-  | inl h ↦ (founding_true t p (founding_past servers.founded.past p h servers.founded.founding) i).0
-  | inr h ↦ is_true t p (ran h) i
-]
-  where
-    w : Past
-    w = (world_after ms).past
+module _ (runs : EveryRun) (writes : EveryRunOfServers) (logs : EveryRunHasOne) (spelled : Spelled) (reads : ReadBack) (tells : (t : Setup) → GiveTells t) (verdicts : (t : Setup) → VerdictsAgree t)
+    (ms : List Move) (t : Setup) (e : (world_after ms).setup ≡ Some t) (setup : IsSetup t) (moves : (m : Move) → In m ms → IsMove m) where
+  abbrev w : Past
+  w = (world_after ms).past
 
-    servers : OfServers t w
-    servers = writes ms t e setup moves
+  abbrev servers : OfServers t w
+  servers = writes ms t e setup moves
 
-    ran : IsPast servers.founded.past p → Ran t p
+  module _ (p : Past) (k : IsPast p w) (small : HasSmallNumbers p) (ranges : MadeInRange p) where
+    pub ran : IsPast servers.founded.past p → Ran t p
     ran h = record {
       setup = setup;
       over = over_past t w p k (logs ms t e setup).parts;
@@ -132,3 +130,24 @@ every_history_true runs writes logs spelled reads tells verdicts ms t e setup mo
       tells = tells t;
       verdicts = verdicts t;
     }
+
+    true_at : (i : Inc) → IsTrue t i (life_in p i)
+    true_at i = elim (pasts_compare p servers.founded.past w k servers.founded.earlier) [
+      | inl h ↦ (founding_true t p (founding_past servers.founded.past p h servers.founded.founding) i).0
+      | inr h ↦ is_true t p (ran h) i
+    ]
+
+  -- what a server committed is of the list, whose GTIDs have the group's UUID
+  committed_apart : HasSmallNumbers w → MadeInRange w → (n : ℕ) (u : List ℕ) → bytes_eq u t.limits.group ≡ false → IsApart u (stored_in w n)
+  committed_apart small ranges n u other c m =
+      let r : Ran t w = ran w (past_self w) small ranges servers.founded.earlier in
+      let y = (ran.knows t w r w (past_self w)).stocks n in
+      let d = y.listed c m in
+      let group : c.gtid.source ≡ t.limits.group = ap (λ (g : Gtid). g.source) d.2.gtid ∙ of_group t (ran.list_in t w r) d.0 d.1 in
+      ap (λ v. bytes_eq u v) group ∙ other
+
+pub every_history_true : EveryRun → EveryRunOfServers → EveryRunHasOne → Spelled → ReadBack → ((t : Setup) → GiveTells t) → ((t : Setup) → VerdictsAgree t) → EveryHistoryIsTrue
+every_history_true runs writes logs spelled reads tells verdicts ms t e setup moves p k small ranges i = true_at runs writes logs spelled reads tells verdicts ms t e setup moves p k small ranges i
+
+pub servers_commit : EveryRun → EveryRunOfServers → EveryRunHasOne → Spelled → ReadBack → ((t : Setup) → GiveTells t) → ((t : Setup) → VerdictsAgree t) → ServersCommitForTheGroup
+servers_commit runs writes logs spelled reads tells verdicts ms t e setup moves = committed_apart runs writes logs spelled reads tells verdicts ms t e setup moves

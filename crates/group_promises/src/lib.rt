@@ -9,7 +9,7 @@ ghost use Rattle.group_legal.specs.Ranges.{HasSmallNumbers};
 ghost use Rattle.group_rules.specs.Events.{Life, OfflineWrite};
 ghost use Rattle.group_rules.specs.World.{Halts, Past, Writes, dids, life_in};
 ghost use Rattle.member_truth.specs.Ranged.{IsRanged};
-ghost use Rattle.group_promises.specs.Promises.{EveryHistoryIsTrue, EveryStepIsPromised};
+ghost use Rattle.group_promises.specs.Promises.{EveryHistoryIsTrue, EveryStepIsPromised, ServersCommitForTheGroup};
 
 use group_lives::{a_give_tells_of_the_list, certifiers_agree};
 use group_order::slots_are_of_one_log;
@@ -37,6 +37,18 @@ pub fn every_step_is_promised()
     ensures { EveryStepIsPromised }
 {
     every_history_is_true();
+}
+
+/// Each server commits under the group's UUID alone, so under no other one, its own among them.
+pub fn servers_commit_for_the_group()
+    ensures { ServersCommitForTheGroup }
+{
+    runs_are_of_nodes();
+    servers_write_apart();
+    slots_are_of_one_log();
+    bytes_of_bodies();
+    a_give_tells_of_the_list();
+    certifiers_agree();
 }
 
 /// What happened stays within its ranges: with a step, as long as the history of the one that steps does; with a server that stops; and with a row that is

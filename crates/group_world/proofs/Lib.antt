@@ -26,4 +26,5 @@ mod Changed
 mod Working
 mod Turns
 mod Fitting
+mod Once
 mod Reported

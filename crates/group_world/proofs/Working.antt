@@ -13,6 +13,10 @@ use Rattle.member_sketch.specs.Standing.{IsLeast, IsMember, IsResult}
 use Rattle.member_sketch.specs.declared.member.Member.{Member as Runner}
 use Rattle.group_world.specs.Draining.{has_work}
 use Rattle.group_world.specs.Sites.{HasMember}
+use Rattle.group_world.specs.Standing.{Along, Goes}
+use Rattle.group_world.specs.declared.stage.Stage.{Stage}
+use Rattle.group_world.proofs.Parts.{SameAt}
+use Rattle.gr_ids.specs.declared.names.Inc.{Inc}
 
 -- ---- the member that runs
 
@@ -89,3 +93,29 @@ worker_later s rest h = go s.running h
     go : (o : Option Member) → has_work o ≡ false → elim o [ None ↦ least_worker rest | Some a ↦ elim (waiting_at a) [ [] ↦ least_worker rest | c ∷ cs ↦ Some s.number ] ] ≡ least_worker rest
     go None q = refl
     go (Some a) q = by (waiting_at a) q
+
+-- ---- at a world
+
+-- where none runs at the server, nothing is worked
+pub idle_at : (n : ℕ) (p : Option ℕ) (x : Stage) (o : Option Runner) → ((y : Play) → Along y x → HasMember (member_at y.world n) o) → o ≡ None → Goes (does (Work n p)) x x
+idle_at n p x o h e y a = subst (λ q. Along q x) (sym (idle_work n p y (no_member (member_at y.world n) (subst (HasMember (member_at y.world n)) e (h y a))))) a
+
+module _ (n : ℕ) (x : Stage) (o : Option Runner) (m : Runner) (h : (y : Play) → Along y x → HasMember (member_at y.world n) o) (e : o ≡ Some m) where
+  runner : (y : Play) → Along y x → (a : Member) × (member_at y.world n ≡ Some a) × IsMember a m
+  runner y a = some_member (member_at y.world n) m (subst (HasMember (member_at y.world n)) e (h y a))
+
+  -- the place isn't queued
+  pub undone_as : (p : ℕ) → ((a : Member) → IsMember a m → IsResult a p None) → SameAt (does (Work n (Some p))) (event n (Works p None)) x
+  undone_as p k y a = let r = runner y a in place_work n p y r.0 None r.1 (k r.0 r.2)
+
+  pub done_as : (p : ℕ) (w : WorkDone) → ((a : Member) → IsMember a m → IsResult a p (Some w)) → SameAt (does (Work n (Some p))) (event n (Works w.place (Some w.body))) x
+  done_as p w k y a =
+      let r = runner y a in
+      let q = k r.0 r.2 in
+      place_work n p y r.0 (Some w.body) r.1 q.1 ∙ ap (λ i. event n (Works i (Some w.body)) y) (sym q.0)
+
+  pub least_as : (w : WorkDone) → ((a : Member) → IsMember a m → IsLeast a (waiting_at a) (Some w)) → SameAt (does (Work n None)) (event n (Works w.place (Some w.body))) x
+  least_as w k y a = let r = runner y a in least_work n y r.0 w r.1 (k r.0 r.2)
+
+  pub idle_as : (i : Inc) → ((a : Member) → IsMember a m → i ≡ a.me.inc) → ((a : Member) → IsMember a m → IsLeast a (waiting_at a) None) → SameAt (does (Work n None)) (say (Idle i)) x
+  idle_as i j k y a = let r = runner y a in no_work n y r.0 r.1 (k r.0 r.2) ∙ ap (λ v. say (Idle v) y) (sym (j r.0 r.2))

@@ -1,9 +1,10 @@
 -- What a server keeps while no incarnation of it runs, and how that stands for what the rules have it store.
-use Rattle.std.specs.Prelude.{◌≡◌, ◌++◌, ◌∷◌, [], ℕ, suc, List, length, map}
+use Rattle.std.specs.Prelude.{◌≡◌, ◌≤◌, ◌++◌, ◌∷◌, [], ℕ, suc, List, length, map}
 use Rattle.gtid_sets.specs.Canonical.{IsCanonical}
-use Rattle.gtid_sets.specs.Sets.{Gtids, with_gtid}
+use Rattle.gtid_sets.specs.Sets.{Gtids}
 use Rattle.key_items.specs.declared.item.Item.{Item}
 use Rattle.paxos_forms.specs.declared.recovery.Given.{Given}
+use Rattle.node_rules.specs.Lists.{In}
 use Rattle.group_rules.specs.Events.{Life, OfflineWrite, Starts, Stored}
 use Rattle.group_rules.specs.Life.{certs, executed, stored}
 use Rattle.group_rules.specs.Recovery.{given_of}
@@ -24,10 +25,11 @@ pub record IsStored (y : Stored) (e : Gtids) (cs : List Chain) (gs : List Given)
   pub places : HasPlaces (Starts y ∷ [])
   pub committed : gs ≡ map given_of y.committed
 
--- what was committed by incarnations before the one that runs, and how many rows were written while none ran
+-- what was committed by incarnations before the one that runs, and how many rows were written while none ran, under the first numbers
 pub record IsEarlier (y : Stored) (x : Earlier) : Type 0 where
   pub committed : x.committed.items ≡ map given_of y.committed
   pub written : x.written ≡ length y.writes
+  pub numbers : (w : OfflineWrite) → In w y.writes → w.gtid.number ≤ length y.writes
 
 -- it stands for what a server of the rules has stored
 pub record KeptFor (y : Stored) (k : KeptServer) : Type 0 where
@@ -54,6 +56,3 @@ pub record Leaves (l : Life) (x : Remains) : Type 0 where
 -- the next write of a server with this UUID
 abbrev pub offline_write : List ℕ → Item → List ℕ → Stored → OfflineWrite
 offline_write u i r y = record { gtid = record { source = u; number = suc (length y.writes) }; item = i; row = r }
-
-abbrev pub with_write : OfflineWrite → Stored → Stored
-with_write x y = record { executed = with_gtid y.executed x.gtid; committed = y.committed; writes = y.writes ++ x ∷ [] }

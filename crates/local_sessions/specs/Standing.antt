@@ -27,6 +27,13 @@ abbrev pub stage_of : Option Session → Option Stage
 stage_of None = None
 stage_of (Some x) = Some x.stage
 
+-- it has begun, and its commit isn't asked: it reads and writes, or its next call says that it ended
+abbrev pub is_open : Option Stage → Bool
+is_open (Some Active) = true
+is_open (Some (WasKilled g)) = true
+is_open (Some WasLeft) = true
+is_open x = false
+
 -- its begin is held
 abbrev pub is_held : Option Session → Bool
 is_held None = false

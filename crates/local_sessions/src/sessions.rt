@@ -1,7 +1,10 @@
 // The sessions of a member that have a transaction.
-ghost use Rattle.std.specs.Prelude.{◌≡◌, []};
+ghost use Rattle.std.specs.Prelude.{◌≡◌, [], Some};
+ghost use Rattle.local_sessions.specs.Standing.{is_open, session_in, stage_of};
 
-use crate::session::Session;
+use crate::listing::stage_at;
+use crate::session::{Session, Stage};
+use gr_ids::SessionId;
 use std::alloc::Global;
 use std::marker::Model;
 
@@ -31,5 +34,23 @@ impl Sessions {
         Sessions {
             list: Vec::new(alloc),
         }
+    }
+    /// Whether it has a transaction that has begun and whose commit isn't asked.
+    pub fn is_open(&self, session: SessionId) -> bool
+        ensures { result ≡ is_open (stage_of (session_in self.now session)) }
+    {
+        match stage_at(&self.list, session) {
+            Some(stage) => is_open_at(&stage),
+            None => false,
+        }
+    }
+}
+
+fn is_open_at(stage: &Stage) -> bool
+    ensures { result ≡ is_open (Some stage.now) }
+{
+    match stage {
+        Stage::Active | Stage::Killed(_) | Stage::Left => true,
+        Stage::Holding | Stage::Asked | Stage::Asking(_) => false,
     }
 }

@@ -24,3 +24,5 @@ pub mod Minded
 pub mod Offered
 pub mod Opened
 pub mod Restored
+pub mod Greeted
+pub mod Founded

@@ -25,7 +25,7 @@ all_spelt [] ys p q m i = q m i
 all_spelt (x ∷ xs) ys p q m (inl e) = p m (inl e)
 all_spelt (x ∷ xs) ys p q m (inr i) = all_spelt xs ys (λ n j. p n (inr j)) q m i
 
-one_spelt : (x : Message) → IsMessage x → AreMessages (x ∷ [])
+pub one_spelt : (x : Message) → IsMessage x → AreMessages (x ∷ [])
 one_spelt x h m (inl e) = subst IsMessage e h
 one_spelt x h m (inr i) = elim i [ ]
 

@@ -10,6 +10,7 @@ mod ending;
 mod founding;
 mod giving;
 mod joining;
+mod keepable;
 mod moment;
 mod offering;
 mod opening;

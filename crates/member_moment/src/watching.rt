@@ -104,7 +104,7 @@ fn removes(value: &Value, inc: Inc) -> bool
     }
 }
 
-fn has_seat(seats: &[Seat], inc: Inc) -> bool
+pub(crate) fn has_seat(seats: &[Seat], inc: Inc) -> bool
     ensures { result ≡ list_any (λ s. inc_eq s.joiner.inc inc) seats.now }
 {
     seats.iter().any(|seat| seat.joiner.inc == inc)

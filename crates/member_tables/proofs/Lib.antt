@@ -15,3 +15,4 @@ pub mod Called
 pub mod Asked
 pub mod Servers
 pub mod Sent
+pub mod Active

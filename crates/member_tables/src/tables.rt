@@ -4,12 +4,14 @@ ghost use Rattle.slot_values.specs.declared.value.Joiner.{Joiner};
 ghost use Rattle.gr_ids.specs.declared.names.Inc.{Inc as Member};
 ghost use Rattle.group_rules.specs.View.{founding};
 ghost use Rattle.group_rules.specs.Events.{Setup, Starts, Stored};
+ghost use Rattle.group_rules.specs.Member.{Member as AnyMember};
+ghost use Rattle.group_rules.specs.Sessions.{is_active, phase};
 ghost use Rattle.group_rules.specs.Steps.{found, start};
 ghost use Rattle.row_store.specs.Following.{RowsOf};
 ghost use Rattle.gtid_sets.specs.Canonical.{IsCanonical};
 ghost use Rattle.member_tables.specs.Standing.{HasGtids, TablesFor};
 
-use gr_ids::{Inc, MemberState, Mode};
+use gr_ids::{Inc, MemberState, Mode, SessionId};
 use gtid_sets::GtidSet;
 use local_sessions::{Sessions, Tables};
 use row_locks::Locks;
@@ -61,10 +63,18 @@ impl MemberTables {
             sessions: Sessions::new(alloc),
         }
     }
+
     /// What its sessions read and write.
     pub fn tables(&self) -> &Tables
         ensures { result.now ≡ self.now.tables }
     {
         &self.tables
+    }
+
+    /// Whether the session has an active transaction. Linear in the sessions; takes no memory.
+    pub fn is_active(&self, session: SessionId) -> bool
+        ensures { (a : AnyMember) → TablesFor a self.now → result ≡ is_active (phase a.life session) }
+    {
+        self.sessions.is_open(session)
     }
 }

@@ -1,2 +1,3 @@
+mod Apart
 mod Kept
 mod Stepping

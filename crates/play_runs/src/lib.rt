@@ -1,7 +1,7 @@
 //! What the plays of scripts rest on: each is a run of the group, so what every run promises holds of its members, and it is legal.
 #![tactic(auto)]
 
-ghost use Rattle.std.specs.Prelude.{◌≡◌, ℕ, Some, List};
+ghost use Rattle.std.specs.Prelude.{◌≡◌, ℕ, Some, None, List};
 ghost use Rattle.gtid_sets.specs.Canonical.{IsUuid};
 ghost use Rattle.key_items.specs.declared.item.Item.{Item};
 ghost use Rattle.group_rules.specs.Events.{Event, Setup};
@@ -10,11 +10,13 @@ ghost use Rattle.group_rules.specs.Member.{Member};
 ghost use Rattle.group_rules.specs.World.{Declares, Founds, Move, Server, Starts, Stops, World, WritesRow, move, new_world, nothing_happens, server_at};
 ghost use Rattle.group_runs.specs.Runs.{IsSetup};
 ghost use Rattle.group_runs.specs.Servers.{IsMove};
+ghost use Rattle.group_promises.specs.Promises.{IsApart};
 ghost use Rattle.play_runs.specs.Runs.{HasRoom, IsRun, IsSafe, IsStepIn, RunsAt};
 
 use group_bridge::steps_are_acts;
 use group_legal::every_run_is_legal;
-use group_promises::every_step_is_promised;
+use group_promises::{every_step_is_promised, servers_commit_for_the_group};
+use group_runs::servers_write_apart;
 use order_laws::{only_taking_greets, only_taking_takes, welcomes_follow};
 
 /// A play begins as a run, and every move keeps it one: a server that is declared with a UUID, a founding as the laws ask, a start, a stop, a row that
@@ -41,6 +43,18 @@ pub fn steps_of_plays_are_promised()
     only_taking_takes();
     only_taking_greets();
     every_step_is_promised();
+}
+
+/// No transaction that a server committed has a GTID of its own UUID, at which it may write while no incarnation of it runs.
+pub fn servers_commit_no_own_gtid()
+    ensures { (w : World) (n : ℕ) (s : Server) → IsRun w → server_at w n ≡ Some s → s.running ≡ None → IsApart s.uuid s.stored }
+{
+    steps_are_acts();
+    welcomes_follow();
+    only_taking_takes();
+    only_taking_greets();
+    servers_write_apart();
+    servers_commit_for_the_group();
 }
 
 /// Every play is legal.

@@ -58,6 +58,11 @@ abbrev pub rows_of : List Chain → List Row
 rows_of [] = []
 rows_of (c ∷ cs) = row_list c.item (last_row c.versions) ++ rows_of cs
 
+-- the row of an item in a list of rows
+abbrev pub row_listed : List Row → Item → Option (List ℕ)
+row_listed [] i = None
+row_listed (r ∷ rs) i = if item_eq i r.item then Some r.value else row_listed rs i
+
 -- ---- what a transaction does
 
 -- there is room for one version more of each item

@@ -1,8 +1,9 @@
 // The rows of all chains.
 ghost use Rattle.std.specs.Prelude.{◌≡◌, ◌++◌, [], IfOk, OnOk, map, option_copied};
 ghost use Rattle.gr_ids.specs.declared.memory.Memory.{Memory};
-ghost use Rattle.row_store.specs.Chains.{item_of, row_list, rows_of};
+ghost use Rattle.row_store.specs.Chains.{item_of, row_list, row_listed, row_now, rows_of};
 ghost use Rattle.key_items.specs.Items.{Ascend};
+ghost use Rattle.key_items.specs.declared.item.Item.{Item as AnyItem};
 ghost use Rattle.row_store.specs.Inside.{chain_of};
 
 use crate::version::{Version, newest_row};
@@ -19,6 +20,7 @@ pub(crate) fn rows_of_chains(
 ) -> Result<Vec<Row>, Memory>
     ensures rows { IfOk result (λ rows. rows.items ≡ rows_of (map chain_of chains.now.entries)) }
     ensures ascend { IfOk result (λ rows. Ascend (map item_of rows.items)) }
+    ensures listed { IfOk result (λ rows. (i : AnyItem) → row_listed rows.items i ≡ row_now (map chain_of chains.now.entries) i) }
 {
     let room = Vec::with_capacity(alloc, chains.len())?;
     let rows = with_rows(room, alloc, chains)?;

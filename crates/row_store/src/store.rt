@@ -5,7 +5,7 @@ ghost use Rattle.gtid_sets.specs.Sets.{Gtids};
 ghost use Rattle.key_items.specs.declared.item.Item.{Item as AnyItem};
 ghost use Rattle.gr_ids.specs.declared.memory.Memory.{Memory};
 ghost use Rattle.group_rules.specs.Rows.{changed_row, fits};
-ghost use Rattle.row_store.specs.Chains.{IsApplied, fault_of, has_room, item_of, row_at, row_now, row_own, rows_of, versions_of};
+ghost use Rattle.row_store.specs.Chains.{IsApplied, fault_of, has_room, item_of, row_at, row_listed, row_now, row_own, rows_of, versions_of};
 
 use crate::chains::{make_room, put_all};
 use crate::fault::RowFault;
@@ -100,6 +100,7 @@ impl Store {
     pub fn rows(&self, alloc: Global) -> Result<Sequence<Row>, Memory>
         ensures rows { IfOk result (λ rows. rows ≡ rows_of self.now) }
         ensures ascend { IfOk result (λ rows. Ascend (map item_of rows)) }
+        ensures listed { IfOk result (λ rows. (i : AnyItem) → row_listed rows i ≡ row_now self.now i) }
     {
         Ok(Sequence::from_vec(rows_of_chains(alloc, &self.chains)?))
     }

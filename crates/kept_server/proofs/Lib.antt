@@ -1,0 +1,3 @@
+mod Stopped
+mod Free
+mod Rowed
