@@ -15,6 +15,7 @@ use crate::stage::Stage;
 use gr_ids::{Inc, Memory, MemberState};
 use group_rules::{Cause, Mark};
 use kept_server::KeptServer;
+use member_messages::Outgoing;
 use member_sketch::{Member, Started, StepLeft};
 use message_checks::{is_inc, is_joiner};
 use play_runs::plays_are_runs;
