@@ -4,7 +4,7 @@ mod Listed
 mod Declared
 mod Halted
 mod Begun
-mod Looking
+mod Shown
 mod Refused
 mod Founded
 mod Applied
@@ -23,8 +23,8 @@ mod Idle
 mod Handed
 mod Parts
 mod Changed
-mod Working
+mod Workers
 mod Turns
 mod Fitting
-mod Once
+mod Calls
 mod Reported

@@ -8,7 +8,7 @@ use Rattle.member_sketch.specs.declared.member.Member.{Member as Running}
 use Rattle.report_text.specs.Reporting.{member_report, running, with_running}
 use Rattle.report_text.specs.declared.world_report.MemberReport.{MemberReport}
 use Rattle.group_world.specs.Sites.{HasMember}
-use Rattle.group_world.proofs.Looking.{nobody, somebody}
+use Rattle.group_world.proofs.Shown.{nobody, somebody}
 
 pub reports_one : (s : Server) (rest : List Server) (x : Running) (r : MemberReport) → HasMember s.running (Some x) → ((a : Member) → IsMember a x → r ≡ member_report a)
     → map member_report (running (s ∷ rest)) ≡ r ∷ map member_report (running rest)

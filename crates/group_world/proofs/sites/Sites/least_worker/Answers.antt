@@ -1,7 +1,7 @@
 use Rattle.std.proofs.Common.{sym, ap, ◌∙◌}
 use Rattle.group_rules.specs.Script.{least_worker}
 use Rattle.group_world.proofs.Walking.{next_site, no_site}
-use Rattle.group_world.proofs.Working.{worker_here, worker_later}
+use Rattle.group_world.proofs.Workers.{worker_here, worker_later}
 use Rattle.group_world.proofs.sites.Sites.least_worker.Goals as goal
 
 pub loop-site-preserved : goal.loop-site-preserved
