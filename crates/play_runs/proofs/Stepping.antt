@@ -1,5 +1,5 @@
 -- A step of a member in a play is promised, and keeps that the play is a run.
-use Rattle.std.proofs.Common.{◌≡◌, ◌-◌, ◌+◌, inl, inr, ℕ, Option, None, Some, List, [], ◌∷◌, ◌++◌, refl, sym, ap, subst, ◌∙◌, length, take, arith, length-append}
+use Rattle.std.proofs.Common.{◌≡◌, ◌-◌, inl, inr, ℕ, Option, None, Some, List, ◌∷◌, ◌++◌, refl, sym, ap, subst, ◌∙◌, length, take}
 use Rattle.gr_ids.specs.declared.names.Inc.{Inc}
 use Rattle.node_rules.specs.Lists.{In}
 use Rattle.group_rules.specs.Events.{Event, Life, Setup}
