@@ -1,9 +1,10 @@
 // Servers that are declared, and the block of the next founding.
-ghost use Rattle.std.specs.Prelude.{◌≡◌, ◌≤◌, ◌||◌, OnOk};
-ghost use Rattle.group_rules.specs.Script.{Play, plays};
-ghost use Rattle.group_rules.specs.World.{Declares, is_group};
-ghost use Rattle.world_servers.specs.Naming.{is_taken_in};
-ghost use Rattle.group_world.specs.Standing.{Along, Goes, setup_in};
+ghost use Rattle.std.specs.Prelude.{◌≡◌, ◌≤◌, ◌||◌, List, OnOk, map};
+ghost use Rattle.group_rules.specs.Script.{plays};
+ghost use Rattle.group_rules.specs.World.{Declares, Server, is_group, with_server};
+ghost use Rattle.world_servers.specs.Naming.{declared_of, is_taken_in};
+ghost use Rattle.group_world.specs.Standing.{Goes, setup_in};
+ghost use Rattle.group_world.specs.Sites.{Rises};
 
 use crate::site::{Site, Stay};
 use crate::stage::Stage;

@@ -1,10 +1,17 @@
 // Incarnations that start.
-ghost use Rattle.std.specs.Prelude.{◌≡◌, List, IfErr, IfOk, OnOk};
+ghost use Rattle.std.specs.Prelude.{◌≡◌, ◌∷◌, [], suc, List, IfErr, IfOk, OnOk};
+ghost use Rattle.gr_ids.specs.declared.levels.MemberState.TheVariants.{Offline};
+ghost use Rattle.group_rules.specs.declared.marks.Cause.TheVariants.{Started as JustStarted};
+ghost use Rattle.group_rules.specs.declared.marks.Mark.TheVariants.{State};
+ghost use Rattle.group_rules.specs.Events.{Stored};
 ghost use Rattle.group_rules.specs.Script.{plays};
-ghost use Rattle.group_rules.specs.World.{Server, Starts};
-ghost use Rattle.member_ranges.specs.Ranges.{IsFounding, setup_with};
-ghost use Rattle.world_servers.specs.Naming.{AreOf, declared_of};
-ghost use Rattle.group_world.specs.Changing.{HasBegun, HaveBegun};
+ghost use Rattle.group_rules.specs.Steps.{start};
+ghost use Rattle.group_rules.specs.World.{Server, Starts, joiner_of};
+ghost use Rattle.kept_server.specs.Keeping.{KeptFor};
+ghost use Rattle.member_ranges.specs.Ranges.{setup_with};
+ghost use Rattle.member_sketch.specs.Standing.{HasStarted};
+ghost use Rattle.world_servers.specs.Naming.{declared_of};
+ghost use Rattle.group_world.specs.Changing.{HasBegun, HaveBegun, Tells};
 ghost use Rattle.group_world.specs.Sites.{AreSites, IsSite, Rises};
 ghost use Rattle.group_world.specs.Standing.{Ends, Goes};
 
