@@ -31,10 +31,10 @@ impl Sites {
         ensures { OnOk result ((ss : List Server) → Rises ss → AreSites ss self.old → AreSites (with_change stopped (at_number server ss) ss) self.new) }
     {
         let at = place_of(&self.list, server);
-        match self.list.get_mut(at) {
-            None => Ok(()),
-            Some(site) => site.stop(alloc),
-        }
+        let Some(site) = self.list.get_mut(at) else {
+            return Ok(());
+        };
+        site.stop(alloc)
     }
 }
 
