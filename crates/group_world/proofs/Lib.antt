@@ -1,3 +1,13 @@
+mod Still
+mod Altered
+mod Listed
+mod Declared
+mod Halted
+mod Begun
+mod Shown
+mod Refused
+mod Founded
+mod Applied
 mod Finding
 mod Stepped
 mod Moving
@@ -11,3 +21,12 @@ mod Posting
 mod Closing
 mod Idle
 mod Handed
+mod Parts
+mod Changed
+mod Workers
+mod Turns
+mod Fitting
+mod Calls
+mod Reported
+mod Wrote
+mod Written

@@ -13,6 +13,7 @@ use Rattle.group_rules.specs.Member.{Member}
 use Rattle.group_rules.specs.Steps.{step, left_by}
 use Rattle.group_rules.specs.World.{Server, running_of, with_server}
 use Rattle.kept_server.specs.Keeping.{KeptFor}
+use Rattle.member_sketch.specs.declared.member.Member.{Member as Runner}
 use Rattle.member_sketch.specs.Standing.{IsKept, IsMember}
 use Rattle.group_world.specs.declared.site.Site.{Site}
 use Rattle.group_world.specs.declared.site.Stay.{Stay}
@@ -52,6 +53,13 @@ HasSite None None = Unit {0}
 HasSite None (Some z) = ⊥
 HasSite (Some s) None = ⊥
 HasSite (Some s) (Some z) = IsSite s z
+
+-- the member that runs, if one does
+abbrev pub HasMember : Option Member → Option Runner → Type 0
+HasMember None None = Unit {0}
+HasMember None (Some m) = ⊥
+HasMember (Some a) None = ⊥
+HasMember (Some a) (Some m) = IsMember a m
 
 -- each number is below those behind it
 abbrev pub Rises : List Server → Type 0

@@ -2,6 +2,7 @@
 ghost use Rattle.std.specs.Prelude.{◌≡◌, ◌≤◌, true, IsTrue, None, nat_lt, option_copied, List, OnOk};
 ghost use Rattle.std.specs.List.{list_all};
 ghost use Rattle.byte_forms.specs.Lists.{IsChain};
+ghost use Rattle.gr_ids.specs.Names.{inc_lt};
 ghost use Rattle.node_rules.specs.Lists.{In};
 ghost use Rattle.group_rules.specs.declared.said.Said.{Said as SaidThing};
 ghost use Rattle.group_rules.specs.Script.{founders, plays};
@@ -13,7 +14,7 @@ ghost use Rattle.group_world.specs.Standing.{Goes};
 use crate::site::{Site, Stay};
 use crate::stage::Stage;
 use crate::uuids::uuid_fits;
-use gr_ids::{Limits, MemberState, Memory, Mode};
+use gr_ids::{Inc, Limits, MemberState, Memory, Mode};
 use group_rules::{Cause, Mark, Said};
 use member_sketch::Member;
 use message_checks::is_joiner;
@@ -71,8 +72,14 @@ fn is_founder_after(before: Option<&Joiner>, founder: &Joiner) -> bool
     }
     match before {
         None => true,
-        Some(last) => last.inc < founder.inc,
+        Some(last) => is_before(last.inc, founder.inc),
     }
+}
+
+fn is_before(i: Inc, j: Inc) -> bool
+    ensures { result ≡ inc_lt i j }
+{
+    i < j
 }
 
 impl Stage {

@@ -1,19 +1,21 @@
 // Where a server stands.
-ghost use Rattle.std.specs.Prelude.{◌≡◌, IfOk};
+ghost use Rattle.std.specs.Prelude.{◌≡◌, IfOk, option_copied};
 ghost use Rattle.group_rules.specs.Member.{Member as Rules};
 ghost use Rattle.group_rules.specs.Steps.{step};
 ghost use Rattle.group_rules.specs.World.{Server};
 ghost use Rattle.member_sketch.specs.Standing.{IsEvent, IsKept, IsMember, event_of};
+ghost use Rattle.group_world.specs.Draining.{has_work};
 ghost use Rattle.group_world.specs.Running.{inc_of};
-ghost use Rattle.group_world.specs.Sites.{HasStepped, IsSite, IsTurn};
+ghost use Rattle.group_world.specs.Sites.{HasMember, HasStepped, IsSite, IsTurn};
 
 use gr_ids::{Inc, Memory};
 use kept_server::KeptServer;
 use member_sketch::{Event, Member, StepLeft};
 use plain_steps::steps_are_plain;
+use std::alloc::Global;
 
 /// Whether an incarnation of a server runs.
-#[derive(Debug, Drop)]
+#[derive(Drop)]
 pub(crate) enum Stay {
     /// None does; what the server keeps.
     Stopped(KeptServer),
@@ -21,7 +23,7 @@ pub(crate) enum Stay {
 }
 
 /// A server: its number, how often it was started, and whether an incarnation of it runs.
-#[derive(Debug, Drop)]
+#[derive(Drop)]
 pub(crate) struct Site {
     pub(crate) number: u8,
     pub(crate) starts: u32,
@@ -50,6 +52,16 @@ impl Site {
 }
 
 impl Site {
+    /// The member that runs, if one does.
+    pub(crate) fn member(&self) -> Option<&Member>
+        ensures { (s : Server) → IsSite s self.now → HasMember s.running (option_copied result) }
+    {
+        match &self.stay {
+            Stay::Stopped(_) => None,
+            Stay::Running(member) => Some(member),
+        }
+    }
+
     /// The incarnation that runs, if one does.
     pub(crate) fn running(&self) -> Option<Inc>
         ensures { (s : Server) → IsSite s self.now → result ≡ inc_of s.running }
@@ -57,6 +69,18 @@ impl Site {
         match &self.stay {
             Stay::Stopped(_) => None,
             Stay::Running(member) => Some(member.inc()),
+        }
+    }
+}
+
+impl Site {
+    /// Whether its member has a place that waits for a worker.
+    pub(crate) fn has_work(&self, alloc: Global) -> Result<bool, Memory>
+        ensures { IfOk result (λ b. (s : Server) → IsSite s self.now → b ≡ has_work s.running) }
+    {
+        match &self.stay {
+            Stay::Stopped(_) => Ok(false),
+            Stay::Running(member) => Ok(member.least_work(alloc)?.is_some()),
         }
     }
 }

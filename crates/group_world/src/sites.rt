@@ -1,20 +1,21 @@
 // Where the servers stand.
 ghost use Rattle.std.specs.Prelude.{◌≡◌, [], List, IfOk, option_copied};
+ghost use Rattle.group_rules.specs.Script.{least_worker};
 ghost use Rattle.group_rules.specs.World.{Server, is_member, running_of};
 ghost use Rattle.group_world.specs.Running.{inc_of, running_incs};
 ghost use Rattle.member_sketch.specs.Standing.{IsEvent, event_of};
-ghost use Rattle.group_world.specs.Sites.{AreSites, HasSite, HaveStepped, Rises, at_number, before};
+ghost use Rattle.group_world.specs.Sites.{AreSites, HasMember, HasSite, HaveStepped, Rises, at_number, before};
 
 use crate::site::{Site, Turn};
 use gr_ids::{Inc, Memory};
-use member_sketch::Event;
+use member_sketch::{Event, Member};
 use std::alloc::Global;
 use std::marker::Model;
 
 /// The declared servers, by ascending number, with what became of each.
-#[derive(Debug, Drop)]
+#[derive(Drop)]
 pub(crate) struct Sites {
-    list: Vec<Site>,
+    pub(crate) list: Vec<Site>,
 }
 
 impl Model for Sites {
@@ -57,6 +58,16 @@ impl Sites {
         self.list.get(place_of(&self.list, server))
     }
 
+    /// The member that runs at the server, if one does.
+    pub(crate) fn member(&self, server: u8) -> Option<&Member>
+        ensures { (ss : List Server) → AreSites ss self.now → HasMember (running_of (at_number server ss)) (option_copied result) }
+    {
+        match self.site(server) {
+            None => None,
+            Some(site) => site.member(),
+        }
+    }
+
     /// The incarnation that runs at the server, if one does.
     pub(crate) fn running(&self, server: u8) -> Option<Inc>
         ensures { (ss : List Server) → AreSites ss self.now → result ≡ inc_of (running_of (at_number server ss)) }
@@ -93,8 +104,24 @@ impl Sites {
     }
 }
 
+impl Sites {
+    /// The least server whose member has a place that waits for a worker.
+    pub(crate) fn least_worker(&self, alloc: Global) -> Result<Option<u8>, Memory>
+        ensures { IfOk result (λ o. (ss : List Server) → AreSites ss self.now → o ≡ least_worker ss) }
+    {
+        let mut left = self.list.as_slice();
+        while let Some((site, behind)) = left.split_first() {
+            if site.has_work(alloc)? {
+                return Ok(Some(site.number));
+            }
+            left = behind;
+        }
+        Ok(None)
+    }
+}
+
 // Where the server stands; the length where it isn't there.
-fn place_of(list: &[Site], number: u8) -> usize
+pub(crate) fn place_of(list: &[Site], number: u8) -> usize
     ensures { result ≡ before number list.now }
 {
     for (k, site) in list.iter().enumerate() {

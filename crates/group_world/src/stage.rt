@@ -8,11 +8,12 @@ use crate::sites::Sites;
 use group_rules::Said;
 use play_runs::plays_are_runs;
 use std::alloc::Global;
+use std::mem;
 use world_servers::{Servers, servers_are_those_of_the_world};
 use world_wire::Wire;
 
 /// The servers of a script, their members, and the messages sent, with what the present step has said.
-#[derive(Debug, Drop)]
+#[derive(Drop)]
 pub(crate) struct Stage {
     pub(crate) servers: Servers,
     pub(crate) sites: Sites,
@@ -39,5 +40,14 @@ impl Stage {
             said: Vec::new(alloc),
             alloc,
         }
+    }
+
+    /// Hands out what was said; from now on nothing is.
+    pub(crate) fn take_said(&mut self) -> Vec<Said>
+        ensures taken { result.items ≡ self.old.said.items }
+        ensures none { self.new.said.items ≡ [] }
+        ensures beside { self.new ≡ record self.old { said = self.new.said } }
+    {
+        mem::replace(&mut self.said, Vec::new(self.alloc))
     }
 }

@@ -55,7 +55,7 @@ impl Stage {
         ensures stands { OnOk result (Goes (settle_of among.now) self.old self.new) }
         ensures full { IfErr result (Ends (settle_of among.now) self.old) }
     {
-        for _delivered in 0..MOST_MESSAGES {
+        for _ in 0..MOST_MESSAGES {
             match self.next(among)? {
                 None => return Ok(()),
                 Some(k) => self.deliver(k)?,

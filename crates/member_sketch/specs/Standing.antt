@@ -30,7 +30,6 @@ use Rattle.member_sketch.specs.declared.event.Event.TheVariants.{Message as Come
 use Rattle.member_sketch.specs.declared.event.StepLeft.{StepLeft}
 use Rattle.member_sketch.specs.declared.member.Member.{Member as Running}
 use Rattle.member_sketch.specs.declared.member.Started.{Started}
-use Rattle.member_sketch.specs.declared.kept.KeptServer.{KeptServer}
 
 -- it stands for a member of the rules
 unfoldable pub IsMember : Member → Running → Type 0

@@ -21,14 +21,14 @@ use slot_values::Joiner;
 use std::alloc::Global;
 
 /// A member: an incarnation with all that it keeps. After want of memory it stands for nothing any more.
-#[derive(Debug, Drop)]
+#[derive(Drop)]
 pub struct Member {
     pub(crate) inc: Inc,
     pub(crate) active: bool,
 }
 
 /// A joiner at its start, with the messages that it sends.
-#[derive(Debug, Drop)]
+#[derive(Drop)]
 pub struct Started {
     pub member: Member,
     pub sent: Vec<Outgoing>,

@@ -1,8 +1,8 @@
--- Whatever play the world stood for, it stands for one from which the rest of the settling leads to the same.
-use Rattle.std.proofs.Common.{◌≡◌, ◌-◌}
-use Rattle.group_rules.specs.Script.{Play, settle, settle_times}
-use Rattle.group_world.specs.Standing.{Along}
+-- The rest of the settling leads to the same.
+use Rattle.std.proofs.Common.{◌-◌}
+use Rattle.group_rules.specs.Script.{settle, settle_times}
+use Rattle.group_world.proofs.Turns.{IsLeft}
 use Rattle.group_world.proofs.stage.Stage.settle.Given as goal
 
-abbrev pub invariant-loop-delivered : goal.invariant-loop-delivered
-invariant-loop-delivered l = (y : Play) → Along y l.initial.self → (z : Play) × Along z l.self × (settle_times l.among (1048576 - l._delivered) z ≡ settle l.among y)
+abbrev pub invariant-loop : goal.invariant-loop
+invariant-loop l = IsLeft (settle_times l.among) (settle l.among) (1048576 - l.counter) l.initial.self l.self

@@ -1,0 +1,134 @@
+-- Why a step is refused.
+use Rattle.std.proofs.Common.{◌≡◌, ℕ, Bool, true, false, Some, None, Option, List, [], ◌∷◌, refl, sym, ap, ◌∙◌}
+use Rattle.std.specs.Prelude.{◌&&◌, option_map, is_some}
+use Rattle.std.specs.List.{list_all}
+use Rattle.gr_ids.specs.declared.names.Inc.{Inc}
+use Rattle.group_rules.specs.declared.steps.Step.{Step}
+use Rattle.group_rules.specs.declared.steps.Step.TheVariants.{Server, Block, Found, Session, Once, Operate, Deliver, Lose, Settle, Work, Drain, Tick, Start, Stop, Offline, ShowMembers, ShowSlots, ShowConfig, ShowGtids, ShowRows, ShowQueue, ShowCertifier, ShowKept, ShowWire, Finish}
+use Rattle.group_rules.specs.Member.{Member}
+use Rattle.group_rules.specs.Script.{Play, Refusal, Declared, NoServer, AlreadyRunning, NoMember, all_run, is_in_use, meets_declared, names, needs_running, refusal, wire_refusal}
+use Rattle.group_rules.specs.World.{World, is_declared, is_running}
+use Rattle.report_text.specs.declared.fault.WorldFault.{WorldFault}
+use Rattle.world_servers.specs.Naming.{AreOf, is_there}
+use Rattle.world_servers.specs.declared.servers.DeclaredServer.{DeclaredServer}
+use Rattle.group_world.specs.Refusing.{fault_for, others_of, passes, runner_of, server_of}
+use Rattle.group_world.specs.Running.{inc_of}
+
+-- ---- the servers that are named
+
+and_true : (b : Bool) → (b && true) ≡ b
+and_true true = refl
+and_true false = refl
+
+pub names_are : (p : ℕ → Bool) (x : Step) → list_all p (names x) ≡ (passes p (server_of x) && list_all p (others_of x))
+names_are p (Server n u v g) = refl
+names_are p (Block k) = refl
+names_are p (Found g m h e q ns) = refl
+names_are p (Session n s r) = refl
+names_are p (Once n s c) = refl
+names_are p (Operate n o) = refl
+names_are p (Deliver k) = refl
+names_are p (Lose k) = refl
+names_are p (Settle ns) = refl
+names_are p (Work n p) = refl
+names_are p Drain = refl
+names_are p (Tick n k) = refl
+names_are p (Start n via) = refl
+names_are p (Stop n) = refl
+names_are p (Offline n i r) = refl
+names_are p (ShowMembers n) = refl
+names_are p (ShowSlots n) = refl
+names_are p (ShowConfig n t) = refl
+names_are p (ShowGtids n) = refl
+names_are p (ShowRows n) = refl
+names_are p (ShowQueue n) = refl
+names_are p (ShowCertifier n) = refl
+names_are p (ShowKept n) = refl
+names_are p ShowWire = refl
+names_are p (Finish n) = refl
+
+pub runners_are : (p : ℕ → Bool) (x : Step) → list_all p (needs_running x) ≡ passes p (runner_of x)
+runners_are p (Server n u v g) = refl
+runners_are p (Block k) = refl
+runners_are p (Found g m h e q ns) = refl
+runners_are p (Session n s r) = and_true (p n)
+runners_are p (Once n s c) = and_true (p n)
+runners_are p (Operate n o) = and_true (p n)
+runners_are p (Deliver k) = refl
+runners_are p (Lose k) = refl
+runners_are p (Settle ns) = refl
+runners_are p (Work n p) = and_true (p n)
+runners_are p Drain = refl
+runners_are p (Tick n k) = and_true (p n)
+runners_are p (Start n via) = and_true (p via)
+runners_are p (Stop n) = and_true (p n)
+runners_are p (Offline n i r) = refl
+runners_are p (ShowMembers n) = and_true (p n)
+runners_are p (ShowSlots n) = and_true (p n)
+runners_are p (ShowConfig n t) = and_true (p n)
+runners_are p (ShowGtids n) = and_true (p n)
+runners_are p (ShowRows n) = and_true (p n)
+runners_are p (ShowQueue n) = and_true (p n)
+runners_are p (ShowCertifier n) = and_true (p n)
+runners_are p (ShowKept n) = and_true (p n)
+runners_are p ShowWire = refl
+runners_are p (Finish n) = and_true (p n)
+
+passes_as : (p q : ℕ → Bool) → ((n : ℕ) → p n ≡ q n) → (o : Option ℕ) → passes p o ≡ passes q o
+passes_as p q h None = refl
+passes_as p q h (Some n) = h n
+
+all_as : (p q : ℕ → Bool) → ((n : ℕ) → p n ≡ q n) → (ns : List ℕ) → list_all p ns ≡ list_all q ns
+all_as p q h [] = refl
+all_as p q h (n ∷ ns) = ap (λ b. b && list_all p ns) (h n) ∙ ap (λ b. q n && b) (all_as p q h ns)
+
+-- all are declared where the one is, and the others are
+pub declared_all : (xs : List DeclaredServer) (w : World) → ((n : ℕ) → is_there xs n ≡ is_declared w n) → (x : Step) → list_all (is_declared w) (names x) ≡ (passes (is_there xs) (server_of x) && list_all (is_there xs) (others_of x))
+declared_all xs w h x = sym (all_as (is_there xs) (is_declared w) h (names x)) ∙ names_are (is_there xs) x
+
+pub first_fails : (b c d e : Bool) → b ≡ false → c ≡ (d && e) → d ≡ b → false ≡ c
+first_fails b c d e h p q = sym (p ∙ ap (λ x. x && e) (q ∙ h))
+
+pub first_passes : (b c d e f : Bool) → b ≡ true → c ≡ (d && e) → d ≡ b → f ≡ e → f ≡ c
+first_passes b c d e f h p q r = r ∙ sym (p ∙ ap (λ x. x && e) (q ∙ h))
+
+pub runs_as : (o : Option Member) (r : Option Inc) → r ≡ inc_of o → is_some r ≡ is_some o
+runs_as None r h = ap is_some h
+runs_as (Some a) r h = ap is_some h
+
+-- ---- the first reason
+
+abbrev pub Told : Step → Play → Option WorldFault → Type 0
+Told x y o = o ≡ option_map fault_for (refusal x y)
+
+pub at_declared : (x : Step) (y : Play) → meets_declared x y.world ≡ true → Told x y (Some (fault_for Declared))
+at_declared x y h = ap (option_map fault_for) (rw (h, refusal) refl)
+
+module _ (x : Step) (y : Play) (undeclared : meets_declared x y.world ≡ false) where
+  pub at_server : list_all (is_declared y.world) (names x) ≡ false → Told x y (Some (fault_for NoServer))
+  at_server h = ap (option_map fault_for) (rw (undeclared, h, refusal) refl)
+
+  module _ (there : list_all (is_declared y.world) (names x) ≡ true) where
+    pub at_running : is_in_use x y.world ≡ true → Told x y (Some (fault_for AlreadyRunning))
+    at_running h = ap (option_map fault_for) (rw (undeclared, there, h, refusal) refl)
+
+    module _ (unused : is_in_use x y.world ≡ false) where
+      pub at_wire : (o : Option WorldFault) (f : WorldFault) → o ≡ option_map fault_for (wire_refusal x y) → o ≡ Some f → Told x y (Some f)
+      at_wire o f h e = go (wire_refusal x y) refl (sym e ∙ h)
+        where
+          go : (r : Option Refusal) → wire_refusal x y ≡ r → Some f ≡ option_map fault_for r → Told x y (Some f)
+          go None q k = absurd (cc k)
+          go (Some r) q k = k ∙ ap (option_map fault_for) (rw (undeclared, there, unused, q, refusal) refl)
+
+      unsent : (o : Option WorldFault) → o ≡ option_map fault_for (wire_refusal x y) → o ≡ None → wire_refusal x y ≡ None
+      unsent o h e = go (wire_refusal x y) (sym e ∙ h)
+        where
+          go : (r : Option Refusal) → None ≡ option_map fault_for r → r ≡ None
+          go None k = refl
+          go (Some r) k = absurd (cc k)
+
+      pub at_member : (o : Option WorldFault) → o ≡ option_map fault_for (wire_refusal x y) → o ≡ None → all_run x y ≡ false → Told x y (Some (fault_for NoMember))
+      at_member o h e k = let none = unsent o h e in ap (option_map fault_for) (rw (undeclared, there, unused, none, k, refusal) refl)
+
+      pub at_none : (o : Option WorldFault) → o ≡ option_map fault_for (wire_refusal x y) → o ≡ None → all_run x y ≡ true → Told x y None
+      at_none o h e k = let none = unsent o h e in ap (option_map fault_for) (rw (undeclared, there, unused, none, k, refusal) refl)
