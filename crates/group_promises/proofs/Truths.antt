@@ -4,20 +4,23 @@ use Rattle.gr_ids.specs.Names.{bytes_eq, inc_eq}
 use Rattle.gr_ids.specs.declared.names.Gtid.{Gtid}
 use Rattle.gr_ids.specs.declared.names.Inc.{Inc}
 use Rattle.gr_ids.specs.declared.levels.MemberState.TheVariants.{Online}
+use Rattle.node_rules.specs.Lists.{In}
 use Rattle.node_rules.proofs.Incs.{inc_is}
 use Rattle.group_rules.specs.Events.{Did, Founds, Starts, Came, Made, Took, Skips, Done, Committed, Is, Gave, Answered, Begun, Changed, Replied, Called, AsksCommit, Ends, Enters, Restores, AskFails, Hears, Ticks, Works, Calls, Operates, Life, Setup}
 use Rattle.group_rules.specs.Legal.{IsPast}
 use Rattle.group_rules.specs.Rows.{known}
-use Rattle.group_rules.specs.World.{Past, Does, Writes, Halts, life_in, world_after}
-use Rattle.group_runs.specs.Runs.{IsDone, EveryRun}
-use Rattle.group_runs.specs.Servers.{IsFounding, IsWritten, OfServers, EveryRunOfServers}
+use Rattle.group_rules.specs.World.{Past, Does, Writes, Halts, Move, life_in, world_after}
+use Rattle.group_runs.specs.Runs.{IsDone, IsSetup, EveryRun, stored_in}
+use Rattle.group_runs.specs.Servers.{IsFounding, IsMove, IsWritten, OfServers, EveryRunOfServers}
 use Rattle.group_order.specs.OneLog.{Follows, LogOver, EveryRunHasOne}
 use Rattle.group_order.proofs.Nexts.{past_self, past_of, did_past}
-use Rattle.group_legal.specs.OwnRanges.{ReadBack}
+use Rattle.group_legal.specs.OwnRanges.{MadeInRange, ReadBack}
+use Rattle.group_legal.specs.Ranges.{HasSmallNumbers}
 use Rattle.group_legal.proofs.Told.{Spelled}
 use Rattle.group_legal.proofs.Takers.{GiveTells}
 use Rattle.group_legal.proofs.Points.{did_here}
 use Rattle.group_legal.proofs.Owners.{pasts_compare, founding_past, written_past}
+use Rattle.group_legal.proofs.Knowing.{of_group}
 use Rattle.group_legal.proofs.Runs.{VerdictsAgree}
 use Rattle.member_truth.specs.Truth.{IsTrueDid, IsTrue, Rise}
 use Rattle.group_promises.specs.Promises.{EveryHistoryIsTrue, IsApart, ServersCommitForTheGroup}
@@ -114,8 +117,8 @@ module _ (runs : EveryRun) (writes : EveryRunOfServers) (logs : EveryRunHasOne) 
   servers = writes ms t e setup moves
 
   module _ (p : Past) (k : IsPast p w) (small : HasSmallNumbers p) (ranges : MadeInRange p) where
-    pub ran : IsPast servers.founded.past p → Ran t p
-    ran h = record {
+    ran_to : IsPast servers.founded.past p → Ran t p
+    ran_to h = record {
       setup = setup;
       over = over_past t w p k (logs ms t e setup).parts;
       done = did_past (IsDone t) w p (runs ms t e setup).done k;
@@ -134,13 +137,13 @@ module _ (runs : EveryRun) (writes : EveryRunOfServers) (logs : EveryRunHasOne) 
     true_at : (i : Inc) → IsTrue t i (life_in p i)
     true_at i = elim (pasts_compare p servers.founded.past w k servers.founded.earlier) [
       | inl h ↦ (founding_true t p (founding_past servers.founded.past p h servers.founded.founding) i).0
-      | inr h ↦ is_true t p (ran h) i
+      | inr h ↦ is_true t p (ran_to h) i
     ]
 
   -- what a server committed is of the list, whose GTIDs have the group's UUID
   committed_apart : HasSmallNumbers w → MadeInRange w → (n : ℕ) (u : List ℕ) → bytes_eq u t.limits.group ≡ false → IsApart u (stored_in w n)
   committed_apart small ranges n u other c m =
-      let r : Ran t w = ran w (past_self w) small ranges servers.founded.earlier in
+      let r : Ran t w = ran_to w (past_self w) small ranges servers.founded.earlier in
       let y = (ran.knows t w r w (past_self w)).stocks n in
       let d = y.listed c m in
       let group : c.gtid.source ≡ t.limits.group = ap (λ (g : Gtid). g.source) d.2.gtid ∙ of_group t (ran.list_in t w r) d.0 d.1 in

@@ -1,3 +1,3 @@
-mod Stopped
 mod Free
-mod Rowed
+mod Stopped
+mod Written

@@ -15,7 +15,7 @@ use Rattle.kept_server.specs.Keeping.{IsEarlier, KeptFor, Leaves, left_of}
 pub kept_with : (l : Life) (r : Remains) (x : Earlier) (k : KeptServer) → k.executed ≡ r.executed → k.store ≡ r.store → k.earlier.written ≡ x.written
     → k.earlier.committed.items ≡ x.committed.items ++ r.committed.items → Leaves l r → IsEarlier (stored l) x → KeptFor (left_of l) k
 kept_with l r x k set rows written all h e = record { stored = record {
-    executed = set ∙ h.executed;
+    executed = set ∙ h.set;
     canonical = h.canonical;
     rows = rw rows h.rows;
     gtids = h.gtids;

@@ -44,8 +44,8 @@ left_of l = record { executed = executed l; committed = (stored l).committed ++ 
 
 -- its executed set and rows, and what it committed itself
 pub record Leaves (l : Life) (x : Remains) : Type 0 where
+  pub set : x.executed ≡ executed l
   pub canonical : IsCanonical (executed l)
-  pub executed : x.executed ≡ executed l
   pub rows : RowsOf (Starts (left_of l) ∷ []) x.store
   pub gtids : HasGtids (Starts (left_of l) ∷ [])
   pub places : HasPlaces (Starts (left_of l) ∷ [])

@@ -43,7 +43,7 @@ items_all : (cs : List Change) → AreOfItems cs → AllItems (items_of cs)
 items_all [] a = tt
 items_all (c ∷ cs) a = with_all (items_of cs) c.item (items_all cs a.1) a.0
 
-has_more : (is : List Item) (i j : Item) → has_item is j ≡ true → has_item (with_item is i) j ≡ true
+pub has_more : (is : List Item) (i j : Item) → has_item is j ≡ true → has_item (with_item is i) j ≡ true
 has_more [] i j h = absurd cc
 has_more (x ∷ xs) i j h = go (item_lt i x) (item_eq i x) (item_eq j x) refl refl refl (has_more xs i j)
   where
@@ -57,7 +57,7 @@ has_more (x ∷ xs) i j h = go (item_lt i x) (item_eq i x) (item_eq j x) refl re
     go false false true f g k r = rw (f, g, k) refl
     go false false false f g k r = let later : has_item xs j ≡ true = rw k at h in rw (f, g, k) (r later)
 
-has_new : (is : List Item) (i : Item) → has_item (with_item is i) i ≡ true
+pub has_new : (is : List Item) (i : Item) → has_item (with_item is i) i ≡ true
 has_new [] i = rw (item_eq_itself i) refl
 has_new (x ∷ xs) i = go (item_lt i x) (item_eq i x) refl refl (has_new xs i)
   where
