@@ -5,14 +5,12 @@ use Rattle.std.specs.List.{insert}
 use Rattle.std.proofs.lemmas.Bool.{eqb-true}
 use Rattle.std.proofs.lemmas.Option.{slice_get-get_or, slice_get_past}
 use Rattle.gr_ids.specs.declared.memory.Memory.{Memory}
-use Rattle.gr_ids.specs.declared.names.Gtid.{Gtid}
 use Rattle.gr_ids.specs.declared.names.Inc.{Inc}
-use Rattle.key_items.specs.declared.item.Item.{Item}
 use Rattle.group_rules.specs.Events.{Setup}
 use Rattle.group_rules.specs.World.{Server, with_server}
 use Rattle.world_servers.specs.Naming.{declared_of}
 use Rattle.world_servers.specs.declared.servers.DeclaredServer.{DeclaredServer}
-use Rattle.group_world.specs.Changing.{HasBegun, HasWritten, HaveBegun, HaveWritten, Tells, after_write, begun, is_busy, with_change}
+use Rattle.group_world.specs.Changing.{HasBegun, HaveBegun, Tells, begun, is_busy, with_change}
 use Rattle.group_world.specs.Sites.{AreSites, IsSite, Rises, at_number, before, under}
 use Rattle.group_world.specs.declared.site.Site.{Site}
 use Rattle.group_world.specs.declared.site.Turn.{Turn}

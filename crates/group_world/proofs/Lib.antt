@@ -28,3 +28,5 @@ mod Turns
 mod Fitting
 mod Calls
 mod Reported
+mod Wrote
+mod Written

@@ -1,10 +1,7 @@
 -- Servers that stop, that start, and to which a row is written.
 use Rattle.std.specs.Prelude.{◌≡◌, ℕ, suc, Bool, true, Option, Some, None, List, [], ◌∷◌, is_some, map}
-use Rattle.gr_ids.specs.declared.names.Gtid.{Gtid}
 use Rattle.gr_ids.specs.declared.levels.MemberState.TheVariants.{Offline}
 use Rattle.gr_ids.specs.declared.names.Inc.{Inc}
-use Rattle.gtid_sets.specs.Canonical.{IsNumber}
-use Rattle.key_items.specs.declared.item.Item.{Item}
 use Rattle.paxos_forms.specs.declared.message.Message.{Message}
 use Rattle.paxos_forms.specs.Messages.{IsMessage}
 use Rattle.node_rules.specs.Lists.{In}
@@ -15,7 +12,6 @@ use Rattle.group_rules.specs.Events.{Setup}
 use Rattle.group_rules.specs.Member.{Member}
 use Rattle.group_rules.specs.Steps.{start}
 use Rattle.group_rules.specs.World.{Server, joiner_of, stored_by, with_server}
-use Rattle.kept_server.specs.Keeping.{IsApart, offline_write, with_write}
 use Rattle.world_servers.specs.Naming.{declared_of}
 use Rattle.world_servers.specs.declared.servers.DeclaredServer.{DeclaredServer}
 use Rattle.group_world.specs.Sites.{AreSites, IsSite, at_number}

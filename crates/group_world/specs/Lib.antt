@@ -8,3 +8,4 @@ pub mod Changing
 pub mod Founding
 pub mod Refusing
 pub mod Applying
+pub mod Writing

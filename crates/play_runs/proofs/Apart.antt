@@ -1,5 +1,5 @@
 -- A server commits under the group's UUID alone, which isn't its own.
-use Rattle.std.proofs.Common.{◌≡◌, inl, inr, ℕ, false, Option, None, Some, List, [], ◌∷◌, refl, sym, ap, subst, ◌∙◌}
+use Rattle.std.proofs.Common.{◌≡◌, inl, inr, ℕ, suc, false, Option, None, Some, List, [], ◌∷◌, length, refl, sym, ap, subst, ◌∙◌}
 use Rattle.gr_ids.specs.Names.{bytes_eq}
 use Rattle.key_items.specs.declared.item.Item.{Item}
 use Rattle.node_rules.specs.Lists.{In}
@@ -20,7 +20,7 @@ some_item = record { table = []; key = [] }
 wrote : (w : World) (n : ℕ) (s : Server) (t : Setup) → w.setup ≡ Some t → server_at w n ≡ Some s → s.running ≡ None
     → (x : OfflineWrite) × (x.gtid.source ≡ s.uuid) × ((move (WritesRow n some_item []) w).past ≡ Writes s.number x ∷ w.past) × ((move (WritesRow n some_item []) w).setup ≡ w.setup)
 unfolding move
-wrote w n s t e q r = (_, refl, rw (e, q, r) refl, rw (e, q, r) refl)
+wrote w n s t e q r = (record { gtid = record { source = s.uuid; number = suc (length s.stored.writes) }; item = some_item; row = [] }, refl, rw (e, q, r) refl, rw (e, q, r) refl)
 
 module _ (sound : (ms : List Move) → Sound (world_after ms)) (servers : EveryRunOfServers) (law : ServersCommitForTheGroup) where
   pub apart : (w : World) (n : ℕ) (s : Server) → IsRun w → server_at w n ≡ Some s → s.running ≡ None → IsApart s.uuid s.stored
