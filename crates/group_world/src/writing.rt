@@ -1,70 +1,88 @@
-// A row that is written while no incarnation runs.
-ghost use Rattle.std.specs.Prelude.{◌≡◌, ◌∷◌, [], ◌≤◌, suc, IfOk, OnErr, OnOk, false};
-ghost use Rattle.gr_ids.specs.Names.{bytes_eq};
-ghost use Rattle.gr_ids.specs.declared.memory.Memory.{Memory};
-ghost use Rattle.gtid_sets.specs.Canonical.{IsNumber, IsUuid};
+// Rows that are written while no incarnation of a server runs.
+ghost use Rattle.std.specs.Prelude.{◌≡◌, List, IfOk, OnOk};
 ghost use Rattle.key_items.specs.Spelling.{IsItem};
-ghost use Rattle.key_items.specs.declared.change.ChangeKind.TheVariants.{Insert as Inserts};
-ghost use Rattle.node_rules.specs.Lists.{In};
-ghost use Rattle.group_rules.specs.Events.{Cert, Stored};
-ghost use Rattle.row_store.specs.Following.{with_write};
-ghost use Rattle.kept_server.specs.Keeping.{KeptFor, offline_write};
+ghost use Rattle.group_rules.specs.Script.{plays};
+ghost use Rattle.group_rules.specs.World.{Server, WritesRow};
+ghost use Rattle.group_world.specs.Changing.{Tells};
+ghost use Rattle.group_world.specs.Sites.{AreSites, IsSite, Rises};
+ghost use Rattle.group_world.specs.Standing.{Goes};
+ghost use Rattle.group_world.specs.Writing.{HasWritten, HaveWritten};
 
-use crate::kept::KeptServer;
-use gr_ids::{Blob, Gtid, Memory, Sequence};
-use key_items::{Change, ChangeKind, Item};
-use row_store::rows_stay_with_their_server;
+use crate::site::{Site, Stay};
+use crate::sites::{Sites, place_of};
+use crate::stage::Stage;
+use crate::uuids::uuid_fits;
+use gr_ids::{Blob, Gtid, Memory};
+use group_rules::Said;
+use key_items::Item;
+use play_runs::{plays_are_runs, servers_commit_no_own_gtid};
 use std::alloc::Global;
+use world_servers::DeclaredServer;
 
-/// The last number that a GTID may have.
-const LAST_NUMBER: u64 = 9_223_372_036_854_775_806;
-
-impl KeptServer {
-    /// Writes a row, under the server's own UUID and its next number; an earlier row of this key is replaced. Refused as want of memory where the number would
-    /// be above 2^63 - 2. After want of memory nothing is written. Logarithmic in the rows, besides the executed set.
-    pub fn write(
+impl Stage {
+    /// The row is written under the server's own UUID and its next number. Nothing happens before the founding, or where the server isn't declared or runs.
+    pub(crate) fn write_offline(
         &mut self,
-        alloc: Global,
-        source: [u8; 16],
+        server: u8,
         item: Item,
         value: Blob,
-    ) -> Result<Gtid, Memory>
+    ) -> Result<(), Memory>
         requires { IsItem item }
-        ensures number { IfOk result (λ g. IsNumber g.number) }
-        ensures gtid { IfOk result (λ g. (y : Stored) → KeptFor y self.old → g ≡ (offline_write source item value y).gtid) }
-        ensures kept { IfOk result (λ g. (y : Stored) → KeptFor y self.old → IsUuid source → ((c : Cert) → In c y.committed → bytes_eq source c.gtid.source ≡ false)
-            → KeptFor (with_write y (offline_write source item value y)) self.new) }
-        ensures same { OnErr result ((y : Stored) → KeptFor y self.old → KeptFor y self.new) }
+        ensures { OnOk result (Goes (plays (WritesRow server item value)) self.old self.new) }
     {
-        rows_stay_with_their_server();
-        let number = next_number(self.earlier.written)?;
-        let gtid = Gtid { source, number };
-        let changes = insert_of(alloc, item, value)?;
-        self.store.room(changes.as_slice())?;
-        self.executed.add(gtid)?;
-        self.store.apply(changes, gtid);
-        self.earlier.written = number;
-        Ok(gtid)
+        plays_are_runs();
+        servers_commit_no_own_gtid();
+        if self.founding.is_none() {
+            return Ok(());
+        }
+        let Some(declared) = self.servers.get(server) else {
+            return Ok(());
+        };
+        match self.sites.write(self.alloc, *declared, item, value)? {
+            None => Ok(()),
+            Some(gtid) => {
+                self.said.push(Said::Offline(gtid))?;
+                Ok(())
+            }
+        }
     }
 }
 
-fn next_number(written: u64) -> Result<u64, Memory>
-    ensures next { IfOk result (λ n. n ≡ suc written) }
-    ensures number { IfOk result (λ n. IsNumber n) }
-{
-    if written >= LAST_NUMBER {
-        return Err(Memory);
+impl Sites {
+    // The row is written at the declared server, where none runs.
+    fn write(
+        &mut self,
+        alloc: Global,
+        server: DeclaredServer,
+        item: Item,
+        value: Blob,
+    ) -> Result<Option<Gtid>, Memory>
+        requires { IsItem item }
+        ensures { IfOk result (λ o. (ss : List Server) → Rises ss → AreSites ss self.old → Tells server ss → HaveWritten server.number item value ss o self.new) }
+    {
+        let at = place_of(&self.list, server.number);
+        let Some(site) = self.list.get_mut(at) else {
+            return Ok(None);
+        };
+        site.write(alloc, server.uuid, item, value)
     }
-    Ok(written + 1)
 }
 
-fn insert_of(alloc: Global, item: Item, value: Blob) -> Result<Sequence<Change>, Memory>
-    ensures { IfOk result (λ changes. changes ≡ record { item = item; what = Inserts value } ∷ []) }
-{
-    let mut changes = Vec::new(alloc);
-    changes.push(Change {
-        item,
-        what: ChangeKind::Insert(value),
-    })?;
-    Ok(Sequence::from_vec(changes))
+impl Site {
+    fn write(
+        &mut self,
+        alloc: Global,
+        uuid: [u8; 16],
+        item: Item,
+        value: Blob,
+    ) -> Result<Option<Gtid>, Memory>
+        requires { IsItem item }
+        ensures { IfOk result (λ o. (s : Server) → IsSite s self.old → s.uuid ≡ uuid → HasWritten item value s o self.new) }
+    {
+        uuid_fits(&uuid);
+        match &mut self.stay {
+            Stay::Running(_) => Ok(None),
+            Stay::Stopped(kept) => Ok(Some(kept.write(alloc, uuid, item, value)?)),
+        }
+    }
 }

@@ -36,9 +36,9 @@ module _ (sound : (ms : List Move) → Sound (world_after ms)) (servers : EveryR
           let x = wrote w n s t e q idle in
           let after : move (WritesRow n some_item []) (world_after r.moves) ≡ move (WritesRow n some_item []) w = ap (move (WritesRow n some_item [])) (sym r.is_it) in
           let moves : (m : Move) → In m (WritesRow n some_item [] ∷ r.moves) → IsMove m = λ m h. elim h [ inl z ↦ subst IsMove z tt | inr z ↦ r.allowed m z ] in
-          let all = servers (WritesRow n some_item [] ∷ r.moves) t (ap (λ v. v.setup) after ∙ x.2.2.1 ∙ e) (r.setup t e) moves in
-          let there : AllWritten (IsWritten t) (Writes s.number x.0 ∷ w.past) = subst (AllWritten (IsWritten t)) (ap (λ v. v.past) after ∙ x.2.2.0) all.written in
-          let other : bytes_eq s.uuid t.limits.group ≡ false = ap (λ u. bytes_eq u t.limits.group) (sym x.2.0) ∙ there.0.apart in
+          let all = servers (WritesRow n some_item [] ∷ r.moves) t (ap (λ v. v.setup) after ∙ x.3 ∙ e) (r.setup t e) moves in
+          let there : AllWritten (IsWritten t) (Writes s.number x.0 ∷ w.past) = subst (AllWritten (IsWritten t)) (ap (λ v. v.past) after ∙ x.2) all.written in
+          let other : bytes_eq s.uuid t.limits.group ≡ false = ap (λ u. bytes_eq u t.limits.group) (sym x.1) ∙ there.0.apart in
           let small : HasSmallNumbers (world_after r.moves).past = subst (λ v. HasSmallNumbers v.past) r.is_it r.small in
           let made : MadeInRange (world_after r.moves).past = subst (λ v. MadeInRange v.past) r.is_it r.made in
           let y = law r.moves t (ap (λ v. v.setup) (sym r.is_it) ∙ e) (r.setup t e) r.allowed small made n s.uuid other in
