@@ -1,6 +1,7 @@
 -- A transaction of one statement, call by call.
 use Rattle.std.proofs.Common.{◌≡◌, ℕ, true, false, refl, ap, sym, subst, ◌∙◌}
-use Rattle.group_rules.specs.Names.{Request, Commit, Rollback}
+use Rattle.group_rules.specs.declared.requests.Request.{Request}
+use Rattle.group_rules.specs.declared.requests.Request.TheVariants.{Commit, Rollback}
 use Rattle.group_rules.specs.Events.{Calls}
 use Rattle.group_rules.specs.Script.{Play, event, has_changed, once_end, once_rest, phase_of}
 use Rattle.group_rules.specs.Sessions.{is_active}

@@ -6,7 +6,7 @@ use Rattle.std.proofs.lemmas.List.Folds.{list_any-append}
 use Rattle.std.proofs.lemmas.List.{length-append}
 use Rattle.std.proofs.Math.Seq.{drop-append_seam}
 use Rattle.gr_ids.specs.declared.names.Inc.{Inc}
-use Rattle.group_rules.specs.Names.{Request}
+use Rattle.group_rules.specs.declared.requests.Request.{Request}
 use Rattle.group_rules.specs.declared.answers.Answer.{Answer}
 use Rattle.group_rules.specs.declared.answers.Answer.TheVariants.{Begun as AnBegun, Held as AnHeld, Got as AnGot, Changed as AnChanged, Sent as AnSent, CommittedEmpty as AnCommittedEmpty, Committed as AnCommitted, RolledBack as AnRolledBack, Busy as AnBusy, NoTransaction as AnNoTransaction, NotOnline as AnNotOnline, ReadOnly as AnReadOnly, RowLocked as AnRowLocked, DuplicateKey as AnDuplicateKey, NoRow as AnNoRow, Killed as AnKilled, Conflict as AnConflict, HoldTimeout as AnHoldTimeout, MemberLeft as AnMemberLeft, Undecided as AnUndecided, NotAcknowledged as AnNotAcknowledged, TooLarge as AnTooLarge}
 use Rattle.group_rules.specs.declared.marks.Mark.{Mark}

@@ -1,7 +1,8 @@
 -- A play that is closed stays closed.
-use Rattle.std.proofs.Common.{◌≡◌, ℕ, zero, suc, Bool, true, false, Option, Some, None, List, [], ◌∷◌, refl, sym, ap, ◌∙◌}
+use Rattle.std.proofs.Common.{◌≡◌, ℕ, zero, suc, Bool, true, false, Option, Some, None, List, [], ◌∷◌, refl, sym, ap, ◌∙◌, ◌-◌, arith}
 use Rattle.std.specs.Prelude.{◌^◌}
-use Rattle.group_rules.specs.Names.{Request, Commit, Rollback}
+use Rattle.group_rules.specs.declared.requests.Request.{Request}
+use Rattle.group_rules.specs.declared.requests.Request.TheVariants.{Commit, Rollback}
 use Rattle.group_rules.specs.Events.{Calls, Cert, Event, Ticks, Works}
 use Rattle.group_rules.specs.Member.{Member}
 use Rattle.group_rules.specs.Queue.{at_place, queue}
@@ -28,7 +29,10 @@ pub settle_times_stay : (ns : List ℕ) (f : ℕ) → Stays (settle_times ns f)
 settle_times_stay ns zero y c h = h
 settle_times_stay ns (suc f) y c h = go (next_letter y.world ns 1 y.wire) (settle_times_stay ns f)
   where
-    go : (o : Option ℕ) → Stays (settle_times ns f) → (elim o [ None ↦ y | Some k ↦ settle_times ns f (deliver k y) ]).closed ≡ Some c
+    abbrev to : Option ℕ → Play
+    to o = elim o [ None ↦ y | Some k ↦ settle_times ns f (deliver k y) ]
+
+    go : (o : Option ℕ) → Stays (settle_times ns f) → (to o).closed ≡ Some c
     go None r = h
     go (Some k) r = r (deliver k y) c (deliver_stays k y c h)
 
@@ -53,6 +57,9 @@ settle_one ns f k y h = rw (h, settle_times) refl
 pub settle_first : (ns : List ℕ) (y : Play) → settle_times ns 1048576 y ≡ settle ns y
 unfolding settle
 settle_first ns y = refl
+
+pub tick_first : (n k : ℕ) (y : Play) → tick_times n (k - 0) y ≡ tick_times n k y
+tick_first n k y = let all : k - 0 ≡ k = omega arith in ap (λ i. tick_times n i y) all
 
 -- ---- draining, by turns
 
@@ -92,20 +99,32 @@ pub drain_times_stay : (f : ℕ) → Stays (drain_times f)
 drain_times_stay zero y c h = h
 drain_times_stay (suc f) y c h = go (least_worker y.world.servers) (drain_times_stay f)
   where
-    go : (o : Option ℕ) → Stays (drain_times f) → (elim o [ None ↦ y | Some n ↦ drain_times f (worked_one n y) ]).closed ≡ Some c
+    abbrev to : Option ℕ → Play
+    to o = elim o [ None ↦ y | Some n ↦ drain_times f (worked_one n y) ]
+
+    go : (o : Option ℕ) → Stays (drain_times f) → (to o).closed ≡ Some c
     go None r = h
     go (Some n) r = r (worked_one n y) c (worked_one_stays n y c h)
 
 pub once_end_stays : (n s : ℕ) → Stays (once_end n s)
 once_end_stays n s y c h = go (has_changed y.world.left)
   where
-    go : (b : Bool) → (elim b [ true ↦ event n (Calls s Commit) y | false ↦ event n (Calls s Rollback) y ]).closed ≡ Some c
+    abbrev to : Bool → Play
+    to b = elim b [ true ↦ event n (Calls s Commit) y | false ↦ event n (Calls s Rollback) y ]
+
+    go : (b : Bool) → (to b).closed ≡ Some c
     go true = event_stays n (Calls s Commit) y c h
     go false = event_stays n (Calls s Rollback) y c h
 
 pub once_rest_stays : (n s : ℕ) (r : Request) → Stays (once_rest n s r)
 once_rest_stays n s r y c h = go (is_active (phase_of (member_at y.world n) s))
   where
-    go : (b : Bool) → (elim b [ true ↦ once_end n s (event n (Calls s r) y) | false ↦ y ]).closed ≡ Some c
+    abbrev to : Bool → Play
+    to b = elim b [ true ↦ once_end n s (event n (Calls s r) y) | false ↦ y ]
+
+    go : (b : Bool) → (to b).closed ≡ Some c
     go true = once_end_stays n s (event n (Calls s r) y) c (event_stays n (Calls s r) y c h)
     go false = h
+
+pub worked_all_stays : Stays worked_all
+worked_all_stays = drain_times_stay (2 ^ 42)

@@ -64,7 +64,7 @@ no_work n y a e h = ap (λ o. work_by n None o y) e ∙ go (waiting_at a) h
 pub least_some : (a : Member) (w : Option WorkDone) → IsLeast a (waiting_at a) w → is_some w ≡ has_work (Some a)
 least_some a w h = go (waiting_at a) w h
   where
-    go : (cs : List Cert) (o : Option WorkDone) → IsLeast a cs o → is_some o ≡ elim cs [ [] ↦ false | c ∷ cs ↦ true ]
+    go : (cs : List Cert) (o : Option WorkDone) → IsLeast a cs o → ◌≡◌ {A = Bool} (is_some o) (elim cs [ [] ↦ false | c ∷ ds ↦ true ])
     go [] o q = ap is_some q
     go (c ∷ cs) None q = absurd q
     go (c ∷ cs) (Some x) q = refl
@@ -75,22 +75,22 @@ false_true e = absurd (cc e)
 pub worker_here : (s : Server) (rest : List Server) → has_work s.running ≡ true → least_worker (s ∷ rest) ≡ Some s.number
 worker_here s rest h = go s.running h
   where
-    by : (cs : List Cert) → elim cs [ [] ↦ false | c ∷ ds ↦ true ] ≡ true → elim cs [ [] ↦ least_worker rest | c ∷ ds ↦ Some s.number ] ≡ Some s.number
+    by : (cs : List Cert) → ◌≡◌ {A = Bool} (elim cs [ [] ↦ false | c ∷ ds ↦ true ]) true → ◌≡◌ {A = Option ℕ} (elim cs [ [] ↦ least_worker rest | c ∷ ds ↦ Some s.number ]) (Some s.number)
     by [] q = absurd (false_true q)
     by (c ∷ cs) q = refl
 
-    go : (o : Option Member) → has_work o ≡ true → elim o [ None ↦ least_worker rest | Some a ↦ elim (waiting_at a) [ [] ↦ least_worker rest | c ∷ cs ↦ Some s.number ] ] ≡ Some s.number
+    go : (o : Option Member) → has_work o ≡ true → ◌≡◌ {A = Option ℕ} (elim o [ None ↦ least_worker rest | Some a ↦ elim (waiting_at a) [ [] ↦ least_worker rest | c ∷ cs ↦ Some s.number ] ]) (Some s.number)
     go None q = absurd (false_true q)
     go (Some a) q = by (waiting_at a) q
 
 pub worker_later : (s : Server) (rest : List Server) → has_work s.running ≡ false → least_worker (s ∷ rest) ≡ least_worker rest
 worker_later s rest h = go s.running h
   where
-    by : (cs : List Cert) → elim cs [ [] ↦ false | c ∷ ds ↦ true ] ≡ false → elim cs [ [] ↦ least_worker rest | c ∷ ds ↦ Some s.number ] ≡ least_worker rest
+    by : (cs : List Cert) → ◌≡◌ {A = Bool} (elim cs [ [] ↦ false | c ∷ ds ↦ true ]) false → ◌≡◌ {A = Option ℕ} (elim cs [ [] ↦ least_worker rest | c ∷ ds ↦ Some s.number ]) (least_worker rest)
     by [] q = refl
     by (c ∷ cs) q = absurd (false_true (sym q))
 
-    go : (o : Option Member) → has_work o ≡ false → elim o [ None ↦ least_worker rest | Some a ↦ elim (waiting_at a) [ [] ↦ least_worker rest | c ∷ cs ↦ Some s.number ] ] ≡ least_worker rest
+    go : (o : Option Member) → has_work o ≡ false → ◌≡◌ {A = Option ℕ} (elim o [ None ↦ least_worker rest | Some a ↦ elim (waiting_at a) [ [] ↦ least_worker rest | c ∷ cs ↦ Some s.number ] ]) (least_worker rest)
     go None q = refl
     go (Some a) q = by (waiting_at a) q
 

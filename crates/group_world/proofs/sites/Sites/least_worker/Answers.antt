@@ -8,15 +8,15 @@ pub loop-site-preserved : goal.loop-site-preserved
 loop-site-preserved c ss h =
     let r = c.loop-site.invariant ss h in
     let k = next_site r.0 c.in-Some.site.now c.in-Some.behind.now c.loop-site.left.now c.in-Some.ensures.cases.0 r.1 in
-    let none = worker_later k.0 k.1 (sym (c.in_ok-has_work.ensures k.0 k.3) ∙ c.if-has_work.false) in
+    let none = worker_later k.0 k.1 (sym (c.in_ok-has_work.ensures k.0 k.3) ∙ c.if-branch.false) in
     (k.1, k.4, sym (ap least_worker k.2 ∙ none) ∙ r.2)
 
-pub returns-in-Some : goal.returns-in-Some
-returns-in-Some c ss h =
+pub returns-then-branch : goal.returns-then-branch
+returns-then-branch c ss h =
     let r = c.loop-site.invariant ss h in
     let k = next_site r.0 c.in-Some.site.now c.in-Some.behind.now c.loop-site.left.now c.in-Some.ensures.cases.0 r.1 in
-    let here = worker_here k.0 k.1 (sym (c.in_ok-has_work.ensures k.0 k.3) ∙ c.if-has_work.true) in
-    sym (sym r.2 ∙ (ap least_worker k.2 ∙ here)) 
+    let here = worker_here k.0 k.1 (sym (c.in_ok-has_work.ensures k.0 k.3) ∙ c.if-branch.true) in
+    sym (sym r.2 ∙ (ap least_worker k.2 ∙ here))
 
 pub returns : goal.returns
 returns c ss h =
