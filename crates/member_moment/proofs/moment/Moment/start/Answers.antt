@@ -5,11 +5,8 @@ use Rattle.gr_ids.specs.declared.limits.Limits.{Limits}
 use Rattle.paxos_forms.specs.declared.message.Message.{Message}
 use Rattle.node_rules.specs.Node.{joiner}
 use Rattle.member_moment.specs.Founding.{IsKeepable}
-use Rattle.member_moment.proofs.Founded.{all_givable, all_numbered, started}
+use Rattle.member_moment.proofs.Founded.{all_givable, started}
 use Rattle.member_moment.proofs.moment.Moment.start.Goals as goal
-
-pub joining-requires-numbers : goal.joining-requires-numbers
-joining-requires-numbers c = all_numbered c.args.committed.now (c.are_keepable.ensures c.if-not-are_keepable.false)
 
 pub returns : goal.returns
 returns c = λ s y good same st.
