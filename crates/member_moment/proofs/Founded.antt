@@ -130,8 +130,8 @@ places_left l h = λ c d m n e. h c d (here c m) (here d n) e
 
 pub leaves : (base : Life) (a : Member) (x : Moment) (r : Remains) → HasPlaces a.life → Stands base a x → r.executed ≡ (stored_by (stored a.life) (Some a)).executed
     → RowsOf (Starts (stored_by (stored a.life) (Some a)) ∷ []) r.store → HasGtids (Starts (stored_by (stored a.life) (Some a)) ∷ []) → r.committed.items ≡ x.committed.items → Leaves a.life r
-leaves base a x r places st executed rows gtids committed = record {
-  executed = executed;
+leaves base a x r places st set rows gtids committed = record {
+  set = set;
   canonical = st.tables.tables.canonical;
   rows = rows;
   gtids = gtids;

@@ -43,7 +43,7 @@ ungiven : (i : Inc) (set : Gtids) (e : Option Entry) (a : Member) → given_to a
 ungiven i set None a h = refl
 ungiven i set (Some e) a h = go (is_add e.value.what e.effect) refl h
   where
-    go : (b : Bool) → is_add e.value.what e.effect ≡ b → elim b [ true ↦ Some (give_at_entry a e set) | false ↦ None ] ≡ None → give_at i set (Some e) a ≡ a
+    go : (b : Bool) → is_add e.value.what e.effect ≡ b → ◌≡◌ {A = Option Give} (elim b [ true ↦ Some (give_at_entry a e set) | false ↦ None ]) None → give_at i set (Some e) a ≡ a
     go true q k = absurd (cc k)
     go false q k = ap (λ z. elim z [ true ↦ send i (Gives (give_at_entry a e set)) a | false ↦ a ]) q
 
