@@ -1,8 +1,11 @@
 use Rattle.std.proofs.lemmas.Result.{on_ok_weaker}
-use Rattle.member_core.proofs.Listening.{offers_add, offers_on}
+use Rattle.member_core.proofs.Listening.{offers_add, offers_on, without_number}
 use Rattle.paxos_forms.specs.declared.message.Wire.TheVariants.{Offer}
 use Rattle.member_core.specs.Hearing.{message_of}
 use Rattle.member_core.proofs.hearing.hear_offer.Goals as goal
+
+pub hear_add-requires : goal.hear_add-requires
+hear_add-requires c = without_number c.args.value c.requires.wire ?
 
 pub returns-then-value-eq0 : goal.returns-then-value-eq0
 returns-then-value-eq0 c = on_ok_weaker c.hear_add.result (λ d. offers_add (message_of c.args.from c.args.to (Offer c.args.value)) c.args.value c.args.moment.now c.hear_add.new.moment ? d) c.hear_add.ensures
