@@ -1,5 +1,5 @@
 -- Messages that come.
-use Rattle.std.proofs.Common.{◌≡◌, Bool, eqb-true, true, false, None, refl, sym, ap, ◌∙◌, subst}
+use Rattle.std.proofs.Common.{◌≡◌, ℕ, Bool, eqb-true, true, false, None, refl, sym, ap, ◌∙◌, subst}
 use Rattle.std.specs.Prelude.{◌==◌}
 use Rattle.slot_values.specs.Spelling.{IsValue, IsWhat}
 use Rattle.slot_values.specs.declared.value.Joiner.{Joiner}
@@ -31,14 +31,21 @@ as_said m w x y e d = subst (λ z. Does (hear (message_of m.from m.to z)) x y) (
 
 -- ---- an offer
 
-pub offers_add : (m : Message) (v : Value) (x y : Moment) → (v.id.number == 0) ≡ true → Does (hear_add v.what) x y → Does (hear_offer m v) x y
+pub offers_add : (m : Message) (v : Value) (x y : Moment) → v.id.number ≡ 0 → Does (hear_add v.what) x y → Does (hear_offer m v) x y
 offers_add m v x y e d base a k st =
-    let q : hear_offer m v a ≡ hear_add v.what a = ap (λ b. elim b [ true ↦ hear_add v.what a | false ↦ at_node (Heard m) a ]) e in
+    let q : hear_offer m v a ≡ hear_add v.what a = ap (λ b. elim b [ true ↦ hear_add v.what a | false ↦ at_node (Heard m) a ]) (ap (λ n. n == 0) e) in
     subst (λ c. Stands base c y) (sym q) (d base a (subst IsKept q k) st)
 
-pub offers_on : (m : Message) (v : Value) (x y : Moment) → (v.id.number == 0) ≡ false → Does (at_node (Heard m)) x y → Does (hear_offer m v) x y
+not_zero : (n : ℕ) → (n ≡ 0 → ⊥) → (n == 0) ≡ false
+not_zero n h = go (n == 0) refl
+  where
+    go : (b : Bool) → (n == 0) ≡ b → b ≡ false
+    go true e = absurd (h (eqb-true n 0 e))
+    go false e = refl
+
+pub offers_on : (m : Message) (v : Value) (x y : Moment) → (v.id.number ≡ 0 → ⊥) → Does (at_node (Heard m)) x y → Does (hear_offer m v) x y
 offers_on m v x y e d base a k st =
-    let q : hear_offer m v a ≡ at_node (Heard m) a = ap (λ b. elim b [ true ↦ hear_add v.what a | false ↦ at_node (Heard m) a ]) e in
+    let q : hear_offer m v a ≡ at_node (Heard m) a = ap (λ b. elim b [ true ↦ hear_add v.what a | false ↦ at_node (Heard m) a ]) (not_zero v.id.number e) in
     subst (λ c. Stands base c y) (sym q) (d base a (subst IsKept q k) st)
 
 add_is : (j : Joiner) (b : Bool) (a : Member) → b ≡ is_up (state a.life) → hear_add (Add j) a ≡ elim b [ true ↦ own (Add j) None a | false ↦ a ]
@@ -141,5 +148,5 @@ adds_else (Says b) x h = does_nothing x
 pub add_fits : (w : What) (j : Joiner) → w ≡ Add j → IsWhat 0 w → IsWhat 1 (Add j)
 add_fits w j e h = subst (λ z. IsWhat 0 z) e h
 
-pub without_number : (v : Value) → IsValue v → (v.id.number == 0) ≡ true → IsWhat 0 v.what
-without_number v h e = subst (λ n. IsWhat n v.what) (eqb-true v.id.number 0 e) h.what
+pub without_number : (v : Value) → IsValue v → v.id.number ≡ 0 → IsWhat 0 v.what
+without_number v h e = subst (λ n. IsWhat n v.what) e h.what
