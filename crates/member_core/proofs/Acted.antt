@@ -1,6 +1,8 @@
 -- The action of a step, and the whole step.
 use Rattle.std.proofs.Common.{◌≡◌, ◌-◌, ◌++◌, ℕ, Bool, true, false, Option, Some, None, [], ◌∷◌, length, map, reverse, take, refl, sym, ap, ◌∙◌, subst}
-use Rattle.group_rules.specs.Events.{Came, Event, Ticks, Starts, Life, Setup, Stored, marks_of}
+use Rattle.group_rules.specs.declared.answers.Answer.TheVariants.{Held}
+use Rattle.group_rules.specs.Sessions.{is_holding, phase}
+use Rattle.group_rules.specs.Events.{Answered, Came, Event, Ticks, Starts, Life, Setup, Stored, marks_of}
 use Rattle.group_rules.specs.Histories.{arranged}
 use Rattle.group_rules.specs.Life.{is_error, state, stored}
 use Rattle.group_rules.specs.Member.{Member, push}
@@ -75,6 +77,18 @@ does_alive e x y t d base a k st =
     subst (λ b. Stands base b y) (sym q) (d base a (sym (t base a st)) (subst IsKept q k) st)
 
 -- ---- a whole step
+
+pub holds_by : (o p : Option ℕ) (x y : Moment) → o ≡ p → Does (hold_by p) x y → Does (hold_by o) x y
+holds_by o p x y e d = subst (λ q. Does (hold_by q) x y) (sym e) d
+
+abbrev IsHeld : Bool → ℕ → Moment → Type 0
+IsHeld b s x = (base : Life) (a : Member) → Stands base a x → b ≡ is_holding (phase a.life s)
+
+pub holds_not : (s : ℕ) (x : Moment) → IsHeld false s x → Does (hold_by (Some s)) x x
+holds_not s x t = does_same (hold_by (Some s)) (λ a. a) x x (λ base a st. ap (λ b. elim b [ true ↦ push (Answered s Held) a | false ↦ a ]) (sym (t base a st))) (λ base a k st. st)
+
+pub holds_now : (s : ℕ) (x y : Moment) → IsHeld true s x → Does (push (Answered s Held)) x y → Does (hold_by (Some s)) x y
+holds_now s x y t d = does_same (hold_by (Some s)) (push (Answered s Held)) x y (λ base a st. ap (λ b. elim b [ true ↦ push (Answered s Held) a | false ↦ a ]) (sym (t base a st))) d
 
 tells : (o : Option ℕ) (a : Member) → Grows a (hold_by o a)
 tells None a = stays a

@@ -325,7 +325,6 @@ settles : {q : Bool} → (a : Member) → Adds q a (settle_slots a)
 unfolding settle_slots
 settles a = then (takes_all a) (in_rounds (2 ^ 42) (propose (take_slots (2 ^ 42) a)))
 
-
 -- ---- what is told of a begin that is held
 
 -- who was called, and by whom, stays

@@ -12,4 +12,4 @@ pub returns : goal.returns
 returns c =
     on_ok_weaker c.reply.result
     (λ d. is_done (λ a. reply_ballot (at_node Campaigns a)) c.args.moment.now c.reply.new.self c.if-not-is_up.ensures
-        (campaigns_so c.promise.result c.node.result.now c.args.moment.now c.at_node.new.self c.reply.new.self c.node.ensures c.promise.ensures (c.in_ok-at_node.ensures.does tt) d)) c.reply.ensures
+    (campaigns_so c.promise.result c.node.result.now c.args.moment.now c.at_node.new.self c.reply.new.self c.node.ensures c.promise.ensures (c.in_ok-at_node.ensures.does tt) d)) c.reply.ensures

@@ -11,4 +11,4 @@ pub returns : goal.returns
 returns c =
     on_ok_weaker c.reply.result
     (λ d. is_done (reply_sent (own_body c.args.body.now)) c.args.moment.now c.reply.new.self c.if-not-is_up.ensures
-        (sends_so (own_body c.args.body.now) c.in_ok-id.id c.args.moment.now c.own_body.new.self c.reply.new.self c.in_ok-id.ensures c.in_ok-own_body.ensures d)) c.reply.ensures
+    (sends_so (own_body c.args.body.now) c.in_ok-id.id c.args.moment.now c.own_body.new.self c.reply.new.self c.in_ok-id.ensures c.in_ok-own_body.ensures d)) c.reply.ensures
