@@ -63,27 +63,27 @@ silent : (i : Inc) (m : Mark) (xs : List Said) → marks_changed m ≡ false →
 silent i m xs h = one_more i m xs ∙ (ap (λ b. list_any said_changed xs || b) h ∙ or_false (list_any said_changed xs))
 
 -- one thing more that was done
-step_said : (i : Inc) (d : Did) (xs : List Said) (p : Past) → IsPlain d → list_any said_changed xs ≡ has_changed p → list_any said_changed (said_mark i (mark_of d) xs) ≡ has_changed (Does i d ∷ p)
-step_said i Founds xs p h e = absurd h
-step_said i (Starts x) xs p h q = absurd h
-step_said i (Came e) xs p h q = q
-step_said i (Made v b) xs p h q = q
-step_said i (Took e) xs p h q = silent i _ xs refl ∙ q
-step_said i (Skips t v) xs p h q = silent i _ xs refl ∙ q
-step_said i (Done p) xs p h q = silent i _ xs refl ∙ q
-step_said i (Committed g) xs p h q = silent i _ xs refl ∙ q
-step_said i (Is s c) xs p h q = silent i _ xs refl ∙ q
-step_said i (Gave p n) xs p h q = silent i _ xs refl ∙ q
-step_said i (Answered s x) xs p h q = silent i _ xs (plain_not x h) ∙ q
-step_said i (Begun s e y) xs p h q = silent i _ xs refl ∙ q
-step_said i (Changed s c) xs p h q = one_more i _ xs ∙ or_true (list_any said_changed xs)
-step_said i (Replied r) xs p h q = silent i _ xs refl ∙ q
-step_said i (Called s v k) xs p h q = q
-step_said i (AsksCommit s v) xs p h q = q
-step_said i (Ends s) xs p h q = q
-step_said i (Enters w) xs p h q = q
-step_said i (Restores g ts) xs p h q = q
-step_said i AskFails xs p h e = e
+step_said : (i : Inc) (d : Did) (xs : List Said) (ps : Past) → IsPlain d → list_any said_changed xs ≡ has_changed ps → list_any said_changed (said_mark i (mark_of d) xs) ≡ has_changed (Does i d ∷ ps)
+step_said i Founds xs ps h e = absurd h
+step_said i (Starts x) xs ps h q = absurd h
+step_said i (Came e) xs ps h q = q
+step_said i (Made v b) xs ps h q = q
+step_said i (Took e) xs ps h q = silent i _ xs refl ∙ q
+step_said i (Skips t v) xs ps h q = silent i _ xs refl ∙ q
+step_said i (Done p) xs ps h q = silent i _ xs refl ∙ q
+step_said i (Committed g) xs ps h q = silent i _ xs refl ∙ q
+step_said i (Is s c) xs ps h q = silent i _ xs refl ∙ q
+step_said i (Gave p n) xs ps h q = silent i _ xs refl ∙ q
+step_said i (Answered s x) xs ps h q = silent i _ xs (plain_not x h) ∙ q
+step_said i (Begun s e y) xs ps h q = silent i _ xs refl ∙ q
+step_said i (Changed s c) xs ps h q = one_more i _ xs ∙ or_true (list_any said_changed xs)
+step_said i (Replied r) xs ps h q = silent i _ xs refl ∙ q
+step_said i (Called s v k) xs ps h q = q
+step_said i (AsksCommit s v) xs ps h q = q
+step_said i (Ends s) xs ps h q = q
+step_said i (Enters w) xs ps h q = q
+step_said i (Restores g ts) xs ps h q = q
+step_said i AskFails xs ps h e = e
 
 -- what an incarnation left in a step
 pub left_said : (i : Inc) (l : Life) → ArePlain l → list_any said_changed (said_of (dids i l)) ≡ has_changed (dids i l)
