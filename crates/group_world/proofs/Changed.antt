@@ -112,7 +112,7 @@ record HasSaid (y z : Play) (w : World) : Type 0 where
   pub said : z.said ≡ y.said ++ said_of w.left
 
 abbrev room_at : World → List Letter → Play → Bool → Play
-room_at w xs y b = elim b [ | false ↦ record y { world = w; wire = xs; said = y.said ++ said_of w.left } | true ↦ record y { closed = Some (record { messages = length xs; bytes = total xs }) } ]
+room_at w xs y b = elim b [ false ↦ record y { world = w; wire = xs; said = y.said ++ said_of w.left } | true ↦ record y { closed = Some (record { messages = length xs; bytes = total xs }) } ]
 
 -- what a move says that the wire has room for
 said_on : (w : World) (xs : List Letter) (y : Play) → (moved_to w xs y).closed ≡ None → HasSaid y (moved_to w xs y) w
