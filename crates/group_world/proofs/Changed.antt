@@ -1,5 +1,5 @@
 -- That a statement was answered Changed is known by what was said.
-use Rattle.std.proofs.Common.{◌≡◌, ◌≤◌, ◌+◌, ◌-◌, ℕ, Bool, true, false, Option, Some, None, List, [], ◌∷◌, ◌++◌, length, drop, take, refl, sym, ap, ◌∙◌, arith}
+use Rattle.std.proofs.Common.{◌≡◌, ◌≤◌, ◌+◌, ◌-◌, ℕ, Bool, true, false, Option, Some, None, List, [], ◌∷◌, ◌++◌, length, drop, take, refl, sym, ap, subst, ◌∙◌, arith}
 use Rattle.std.specs.Prelude.{◌||◌}
 use Rattle.std.specs.List.{list_any}
 use Rattle.std.proofs.lemmas.List.Folds.{list_any-append}
@@ -63,27 +63,27 @@ silent : (i : Inc) (m : Mark) (xs : List Said) → marks_changed m ≡ false →
 silent i m xs h = one_more i m xs ∙ (ap (λ b. list_any said_changed xs || b) h ∙ or_false (list_any said_changed xs))
 
 -- one thing more that was done
-step_said : (i : Inc) (d : Did) (xs : List Said) (p : Past) → IsPlain d → list_any said_changed xs ≡ has_changed p → list_any said_changed (said_mark i (mark_of d) xs) ≡ has_changed (Does i d ∷ p)
-step_said i Founds xs p h e = absurd h
-step_said i (Starts x) xs p h e = absurd h
-step_said i (Came e) xs p h e = e
-step_said i (Made v b) xs p h e = e
-step_said i (Took e) xs p h e = silent i _ xs refl ∙ e
-step_said i (Skips t v) xs p h e = silent i _ xs refl ∙ e
-step_said i (Done p) xs p h e = silent i _ xs refl ∙ e
-step_said i (Committed g) xs p h e = silent i _ xs refl ∙ e
-step_said i (Is s c) xs p h e = silent i _ xs refl ∙ e
-step_said i (Gave p n) xs p h e = silent i _ xs refl ∙ e
-step_said i (Answered s x) xs p h e = silent i _ xs (plain_not x h) ∙ e
-step_said i (Begun s e y) xs p h e = silent i _ xs refl ∙ e
-step_said i (Changed s c) xs p h e = one_more i _ xs ∙ or_true (list_any said_changed xs)
-step_said i (Replied r) xs p h e = silent i _ xs refl ∙ e
-step_said i (Called s v k) xs p h e = e
-step_said i (AsksCommit s v) xs p h e = e
-step_said i (Ends s) xs p h e = e
-step_said i (Enters w) xs p h e = e
-step_said i (Restores g ts) xs p h e = e
-step_said i AskFails xs p h e = e
+step_said : (i : Inc) (d : Did) (xs : List Said) (ps : Past) → IsPlain d → list_any said_changed xs ≡ has_changed ps → list_any said_changed (said_mark i (mark_of d) xs) ≡ has_changed (Does i d ∷ ps)
+step_said i Founds xs ps h e = absurd h
+step_said i (Starts x) xs ps h q = absurd h
+step_said i (Came e) xs ps h q = q
+step_said i (Made v b) xs ps h q = q
+step_said i (Took e) xs ps h q = silent i _ xs refl ∙ q
+step_said i (Skips t v) xs ps h q = silent i _ xs refl ∙ q
+step_said i (Done p) xs ps h q = silent i _ xs refl ∙ q
+step_said i (Committed g) xs ps h q = silent i _ xs refl ∙ q
+step_said i (Is s c) xs ps h q = silent i _ xs refl ∙ q
+step_said i (Gave p n) xs ps h q = silent i _ xs refl ∙ q
+step_said i (Answered s x) xs ps h q = silent i _ xs (plain_not x h) ∙ q
+step_said i (Begun s e y) xs ps h q = silent i _ xs refl ∙ q
+step_said i (Changed s c) xs ps h q = one_more i _ xs ∙ or_true (list_any said_changed xs)
+step_said i (Replied r) xs ps h q = silent i _ xs refl ∙ q
+step_said i (Called s v k) xs ps h q = q
+step_said i (AsksCommit s v) xs ps h q = q
+step_said i (Ends s) xs ps h q = q
+step_said i (Enters w) xs ps h q = q
+step_said i (Restores g ts) xs ps h q = q
+step_said i AskFails xs ps h e = e
 
 -- what an incarnation left in a step
 pub left_said : (i : Inc) (l : Life) → ArePlain l → list_any said_changed (said_of (dids i l)) ≡ has_changed (dids i l)
@@ -111,14 +111,14 @@ record HasSaid (y z : Play) (w : World) : Type 0 where
   pub world : z.world ≡ w
   pub said : z.said ≡ y.said ++ said_of w.left
 
+abbrev room_at : World → List Letter → Play → Bool → Play
+room_at w xs y b = elim b [ false ↦ record y { world = w; wire = xs; said = y.said ++ said_of w.left } | true ↦ record y { closed = Some (record { messages = length xs; bytes = total xs }) } ]
+
 -- what a move says that the wire has room for
 said_on : (w : World) (xs : List Letter) (y : Play) → (moved_to w xs y).closed ≡ None → HasSaid y (moved_to w xs y) w
 said_on w xs y h = go (is_full xs) h
   where
-    abbrev to : Bool → Play
-    to b = elim b [ | false ↦ record y { world = w; wire = xs; said = y.said ++ said_of w.left } | true ↦ record y { closed = Some (record { messages = length xs; bytes = total xs }) } ]
-
-    go : (b : Bool) → (to b).closed ≡ None → HasSaid y (to b) w
+    go : (b : Bool) → (room_at w xs y b).closed ≡ None → HasSaid y (room_at w xs y b) w
     go false e = record { world = refl; said = refl }
     go true e = absurd (cc e)
 
@@ -134,3 +134,11 @@ behind plain n s r y x z a b =
     let world : (event n (Calls s r) y).world ≡ move m y.world = ap (λ p. p.world) is ∙ k.world in
     let long : length z.said.items ≡ length x.said.items + length (said_of left) = ap length all ∙ length-append x.said.items (said_of left) in
     (omega (arith, long), ap (λ l. list_any said_changed (drop (length x.said.items) l)) all ∙ (ap (list_any said_changed) (drop-append_seam x.said.items (said_of left)) ∙ (event_said plain n s r y.world ∙ ap (λ w. has_changed w.left) (sym world))))
+
+-- an answer read off what was said since
+pub tells : AllPlain → (n s : ℕ) (r : Request) (y : Play) (x z : Stage) → Along y x → Along (event n (Calls s r) y) z → (before : ℕ) (said : List Said) (b : Bool)
+    → before ≡ length x.said.items → said ≡ z.said.items → (before ≤ length said → b ≡ list_any said_changed (drop before said)) → b ≡ has_changed (event n (Calls s r) y).world.left
+tells plain n s r y x z a c before said b e f h =
+    let k = behind plain n s r y x z a c in
+    let long : before ≤ length said = subst (λ m. m ≤ length said) (sym e) (subst (λ (l : List Said). length x.said.items ≤ length l) (sym f) k.0) in
+    h long ∙ (ap (λ m. list_any said_changed (drop m said)) e ∙ (ap (λ l. list_any said_changed (drop (length x.said.items) l)) f ∙ k.1))

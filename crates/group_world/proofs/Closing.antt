@@ -25,14 +25,14 @@ plays_stay m y c h = ap (λ z. z.closed) (closed_plays m y c h) ∙ h
 pub deliver_stays : (k : ℕ) → Stays (deliver k)
 deliver_stays k y c h = ap (λ z. z.closed) (closed_plays _ _ c h) ∙ h
 
+abbrev settle_at : List ℕ → ℕ → Play → Option ℕ → Play
+settle_at ns f y o = elim o [ None ↦ y | Some k ↦ settle_times ns f (deliver k y) ]
+
 pub settle_times_stay : (ns : List ℕ) (f : ℕ) → Stays (settle_times ns f)
 settle_times_stay ns zero y c h = h
 settle_times_stay ns (suc f) y c h = go (next_letter y.world ns 1 y.wire) (settle_times_stay ns f)
   where
-    abbrev to : Option ℕ → Play
-    to o = elim o [ None ↦ y | Some k ↦ settle_times ns f (deliver k y) ]
-
-    go : (o : Option ℕ) → Stays (settle_times ns f) → (to o).closed ≡ Some c
+    go : (o : Option ℕ) → Stays (settle_times ns f) → (settle_at ns f y o).closed ≡ Some c
     go None r = h
     go (Some k) r = r (deliver k y) c (deliver_stays k y c h)
 
@@ -95,34 +95,34 @@ work_stays n (Some p) (Some a) y c h = event_stays n (Works p (body_at (at_place
 pub worked_one_stays : (n : ℕ) → Stays (worked_one n)
 worked_one_stays n y c h = settle_stays [] _ c (work_stays n None (member_at y.world n) y c h)
 
+abbrev drain_at : ℕ → Play → Option ℕ → Play
+drain_at f y o = elim o [ None ↦ y | Some n ↦ drain_times f (worked_one n y) ]
+
 pub drain_times_stay : (f : ℕ) → Stays (drain_times f)
 drain_times_stay zero y c h = h
 drain_times_stay (suc f) y c h = go (least_worker y.world.servers) (drain_times_stay f)
   where
-    abbrev to : Option ℕ → Play
-    to o = elim o [ None ↦ y | Some n ↦ drain_times f (worked_one n y) ]
-
-    go : (o : Option ℕ) → Stays (drain_times f) → (to o).closed ≡ Some c
+    go : (o : Option ℕ) → Stays (drain_times f) → (drain_at f y o).closed ≡ Some c
     go None r = h
     go (Some n) r = r (worked_one n y) c (worked_one_stays n y c h)
+
+abbrev end_at : ℕ → ℕ → Play → Bool → Play
+end_at n s y b = elim b [ true ↦ event n (Calls s Commit) y | false ↦ event n (Calls s Rollback) y ]
 
 pub once_end_stays : (n s : ℕ) → Stays (once_end n s)
 once_end_stays n s y c h = go (has_changed y.world.left)
   where
-    abbrev to : Bool → Play
-    to b = elim b [ true ↦ event n (Calls s Commit) y | false ↦ event n (Calls s Rollback) y ]
-
-    go : (b : Bool) → (to b).closed ≡ Some c
+    go : (b : Bool) → (end_at n s y b).closed ≡ Some c
     go true = event_stays n (Calls s Commit) y c h
     go false = event_stays n (Calls s Rollback) y c h
+
+abbrev rest_at : ℕ → ℕ → Request → Play → Bool → Play
+rest_at n s r y b = elim b [ true ↦ once_end n s (event n (Calls s r) y) | false ↦ y ]
 
 pub once_rest_stays : (n s : ℕ) (r : Request) → Stays (once_rest n s r)
 once_rest_stays n s r y c h = go (is_active (phase_of (member_at y.world n) s))
   where
-    abbrev to : Bool → Play
-    to b = elim b [ true ↦ once_end n s (event n (Calls s r) y) | false ↦ y ]
-
-    go : (b : Bool) → (to b).closed ≡ Some c
+    go : (b : Bool) → (rest_at n s r y b).closed ≡ Some c
     go true = once_end_stays n s (event n (Calls s r) y) c (event_stays n (Calls s r) y c h)
     go false = h
 

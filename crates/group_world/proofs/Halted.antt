@@ -32,8 +32,8 @@ rising_as f (Some s) ss r = rises_with (f s) ss r
 pub known_as : (f : Server → Server) → ((s : Server) → declared_of (f s) ≡ declared_of s) → (n : ℕ) (ss : List Server) (o : Option Server) → at_number n ss ≡ o → AreDeclared ss → AreDeclared (with_change f o ss)
 known_as f h n ss None e k = k
 known_as f h n ss (Some s) e k = λ v i. elim (in_with v (f s) ss i) [
-    | inl q ↦ subst (λ u. IsUuid u.uuid) q (subst IsUuid (sym (ap (λ d. d.uuid) (h s))) (k s (at_in n ss s e).0))
-    | inr q ↦ k v q
+  | inl q ↦ subst (λ u. IsUuid u.uuid) q (subst IsUuid (sym (ap (λ d. d.uuid) (h s))) (k s (at_in n ss s e).0))
+  | inr q ↦ k v q
 ]
 
 -- ---- the stop

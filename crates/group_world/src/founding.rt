@@ -146,10 +146,7 @@ impl Stage {
             version: me.version,
             weight: me.weight,
         })?;
-        self.said.push(Said::Marked(
-            me.inc,
-            Mark::State(MemberState::Online, Cause::Founded),
-        ))?;
+        self.said.push(Said::Marked(me.inc, Mark::State(MemberState::Online, Cause::Founded)))?;
         Ok(())
     }
 }

@@ -83,8 +83,17 @@ fn request_of(change: Change) -> Request
 fn has_changed(said: &[Said], before: usize) -> bool
     ensures { before ≤ length said.now → result ≡ list_any said_changed (drop before said.now) }
 {
-    let (_, since) = said.split_at(before.min(said.len()));
-    since.iter().any(is_changed)
+    if said.len() < before {
+        return false;
+    }
+    let (_, since) = said.split_at(before);
+    any_changed(since)
+}
+
+fn any_changed(said: &[Said]) -> bool
+    ensures { result ≡ list_any said_changed said.now }
+{
+    said.iter().any(|one| is_changed(one))
 }
 
 fn is_changed(said: &Said) -> bool

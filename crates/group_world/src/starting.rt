@@ -19,7 +19,7 @@ use crate::founding::Founding;
 use crate::site::{Site, Stay, Turn};
 use crate::sites::{Sites, place_of};
 use crate::stage::Stage;
-use gr_ids::{Inc, Memory, MemberState};
+use gr_ids::{Inc, MemberState, Memory};
 use group_rules::{Cause, Mark};
 use kept_server::KeptServer;
 use member_messages::Outgoing;

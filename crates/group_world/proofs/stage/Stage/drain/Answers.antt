@@ -10,9 +10,9 @@ use Rattle.group_world.proofs.stage.Stage.drain.Goals as goal
 
 pub returns-in_err-settle-clause-full : goal.returns-in_err-settle-clause-full
 returns-in_err-settle-clause-full c =
-    err_is c.from_residual.result c.in_err-settle.field-0 (Ends (does Drain) c.args.self.now) c.from_residual.ensures.1
-    (ends_as (does Drain) (λ y. worked_all (settle [] y)) c.args.self.now c.in_err-settle.field-0 (λ y a. sym (drain_first y))
-    (ends_then (settle []) worked_all c.args.self.now c.in_err-settle.field-0 worked_all_stays c.in_err-settle.ensures.full))
+    err_is c.from_residual.result c.in_err-settle.field-0.0 (Ends (does Drain) c.args.self.now) c.from_residual.ensures.1
+    (ends_as (does Drain) (λ y. worked_all (settle [] y)) c.args.self.now c.in_err-settle.field-0.0 (λ y a. sym (drain_first y))
+    (ends_then (settle []) worked_all c.args.self.now c.in_err-settle.field-0.0 worked_all_stays c.in_err-settle.ensures.full))
 
 pub returns-clause-stands : goal.returns-clause-stands
 returns-clause-stands c = on_ok c.work_all.result c.work_all.ensures.stands (λ g y a. subst (λ p. Along p c.work_all.new.self) (drain_first y) (g (settle [] y) (c.in_ok-settle.ensures.stands y a)))

@@ -25,6 +25,6 @@ returns-clause-stands c =
 
 pub returns-in_err-deliver-in-Some-clause-full : goal.returns-in_err-deliver-in-Some-clause-full
 returns-in_err-deliver-in-Some-clause-full c =
-    err_is c.from_residual-in_err-deliver-in-Some.result c.in_err-deliver-in-Some.field-0 (Ends (settle c.args.among.now) c.args.self.now) c.from_residual-in_err-deliver-in-Some.ensures.1
-    (turns_fail (settle_times c.args.among.now) (settle c.args.among.now) 1048576 c.loop.counter c.args.self.now c.loop.self (deliver c.in-Some.k) c.in_err-deliver-in-Some.field-0 c.loop-test.true c.loop.invariant
+    err_is c.from_residual-in_err-deliver-in-Some.result c.in_err-deliver-in-Some.field-0.0 (Ends (settle c.args.among.now) c.args.self.now) c.from_residual-in_err-deliver-in-Some.ensures.1
+    (turns_fail (settle_times c.args.among.now) (settle c.args.among.now) 1048576 c.loop.counter c.args.self.now c.loop.self (deliver c.in-Some.k) c.in_err-deliver-in-Some.field-0.0 c.loop-test.true c.loop.invariant
     (λ p a f. settle_one c.args.among.now f c.in-Some.k p (sym (c.in_ok-next.ensures p a) ∙ c.in-Some.is)) (λ f. settle_times_stay c.args.among.now f) c.in_err-deliver-in-Some.ensures.full)

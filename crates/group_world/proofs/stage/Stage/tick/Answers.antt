@@ -21,6 +21,6 @@ returns-clause-stands c =
 
 pub returns-in_err-event-clause-full : goal.returns-in_err-event-clause-full
 returns-in_err-event-clause-full c =
-    err_is c.from_residual.result c.in_err-event.field-0 (Ends (tick_times c.args.server c.args.count) c.args.self.now) c.from_residual.ensures.1
-    (turns_fail (tick_times c.args.server) (tick_times c.args.server c.args.count) c.args.count c.loop.counter c.args.self.now c.loop.self (event c.args.server Ticks) c.in_err-event.field-0 c.loop-test.true c.loop.invariant
+    err_is c.from_residual.result c.in_err-event.field-0.0 (Ends (tick_times c.args.server c.args.count) c.args.self.now) c.from_residual.ensures.1
+    (turns_fail (tick_times c.args.server) (tick_times c.args.server c.args.count) c.args.count c.loop.counter c.args.self.now c.loop.self (event c.args.server Ticks) c.in_err-event.field-0.0 c.loop-test.true c.loop.invariant
     (λ p a f. refl) (λ f. tick_times_stay c.args.server f) c.in_err-event.ensures.full)

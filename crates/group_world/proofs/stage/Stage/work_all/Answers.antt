@@ -26,6 +26,6 @@ returns-clause-stands c =
 
 pub returns-in_err-work_and_settle-in-Some-clause-full : goal.returns-in_err-work_and_settle-in-Some-clause-full
 returns-in_err-work_and_settle-in-Some-clause-full c =
-    err_is c.from_residual-in_err-work_and_settle-in-Some.result c.in_err-work_and_settle-in-Some.field-0 (Ends worked_all c.args.self.now) c.from_residual-in_err-work_and_settle-in-Some.ensures.1
-    (turns_fail drain_times worked_all 4398046511104 c.loop.counter c.args.self.now c.loop.self (worked_one c.in-Some.server) c.in_err-work_and_settle-in-Some.field-0 c.loop-test.true c.loop.invariant
+    err_is c.from_residual-in_err-work_and_settle-in-Some.result c.in_err-work_and_settle-in-Some.field-0.0 (Ends worked_all c.args.self.now) c.from_residual-in_err-work_and_settle-in-Some.ensures.1
+    (turns_fail drain_times worked_all 4398046511104 c.loop.counter c.args.self.now c.loop.self (worked_one c.in-Some.server) c.in_err-work_and_settle-in-Some.field-0.0 c.loop-test.true c.loop.invariant
     (λ p a f. drain_one f c.in-Some.server p (sym (c.in_ok-least_worker.ensures p.world.servers a.holds.sites) ∙ c.in-Some.is)) drain_times_stay c.in_err-work_and_settle-in-Some.ensures.full)

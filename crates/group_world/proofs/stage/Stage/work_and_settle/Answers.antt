@@ -13,5 +13,5 @@ returns-clause-stands c = on_ok c.settle.result c.settle.ensures.stands (λ g y 
 
 pub returns-in_err-work_least-clause-full : goal.returns-in_err-work_least-clause-full
 returns-in_err-work_least-clause-full c =
-    err_is c.from_residual.result c.in_err-work_least.field-0 (Ends (worked_one c.args.server) c.args.self.now) c.from_residual.ensures.1
-    (ends_then (does (Work c.args.server None)) (settle []) c.args.self.now c.in_err-work_least.field-0 (settle_stays []) c.in_err-work_least.ensures.full)
+    err_is c.from_residual.result c.in_err-work_least.field-0.0 (Ends (worked_one c.args.server) c.args.self.now) c.from_residual.ensures.1
+    (ends_then (does (Work c.args.server None)) (settle []) c.args.self.now c.in_err-work_least.field-0.0 (settle_stays []) c.in_err-work_least.ensures.full)

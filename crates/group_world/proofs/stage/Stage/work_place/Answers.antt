@@ -18,6 +18,6 @@ returns-in-None-clause-stands c =
 
 pub returns-in-Some-2-clause-stands : goal.returns-in-Some-2-clause-stands
 returns-in-Some-2-clause-stands c =
-    on_ok c.event.result c.event.ensures.stands (goes_as (does (Work c.args.server (Some c.args.place))) (event c.args.server (Works c.in-Some-2.done.place (Some c.in-Some-2.done.body))) c.args.self.now c.event.new.self
+    on_ok c.event-in-Some-2.result c.event-in-Some-2.ensures.stands (goes_as (does (Work c.args.server (Some c.args.place))) (event c.args.server (Works c.in-Some-2.done.place (Some c.in-Some-2.done.body))) c.args.self.now c.event-in-Some-2.new.self
     (done_as c.args.server c.args.self.now (option_copied c.member.result) c.in-Some.member.now (λ y a. c.member.ensures y.world.servers a.holds.sites) (ap option_copied c.in-Some.is)
     c.args.place c.in-Some-2.done (λ a i. subst (λ (o : Option WorkDone). IsResult a c.args.place o) c.in-Some-2.is (c.in_ok-work_at.ensures a i))))
