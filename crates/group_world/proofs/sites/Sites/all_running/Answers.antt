@@ -1,4 +1,4 @@
-use Rattle.std.proofs.Common.{◌≡◌, [], ◌∷◌, ◌++◌, append_assoc, append-nil, sym, ap, ◌∙◌}
+use Rattle.std.proofs.Common.{[], ◌∷◌, ◌++◌, append_assoc, append-nil, sym, ap, ◌∙◌}
 use Rattle.group_world.specs.Running.{running_incs}
 use Rattle.group_world.proofs.Walking.{next_none, next_some, next_site, no_site}
 use Rattle.group_world.proofs.sites.Sites.all_running.Goals as goal

@@ -1,9 +1,6 @@
-use Rattle.std.proofs.Common.{◌≡◌, refl, true, false, Some, None, sym, ap, ◌∙◌}
-use Rattle.group_rules.specs.Events.{Hears}
-use Rattle.group_rules.specs.Script.{Letter, Play}
-use Rattle.group_rules.specs.World.{Takes, is_member, kth, running_of, runs}
-use Rattle.group_world.specs.Sites.{at_number}
-use Rattle.group_world.specs.Standing.{Along}
+use Rattle.std.proofs.Common.{◌≡◌, refl, true, false, sym, ◌∙◌}
+use Rattle.group_rules.specs.Script.{Letter}
+use Rattle.group_rules.specs.World.{Takes, runs}
 use Rattle.group_world.proofs.Idle.{idle}
 use Rattle.group_world.proofs.Posting.{got, kth_in, marked, marks, taken_by, taken_by_none, untaken}
 use Rattle.group_world.proofs.Results.{if_err, on_ok}

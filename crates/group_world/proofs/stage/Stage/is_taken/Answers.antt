@@ -19,5 +19,5 @@ returns-in-None c =
 
 pub returns-in-Some : goal.returns-in-Some
 returns-in-Some c =
-    second (is_taken_in c.args.self.now.servers c.args.number c.args.uuid) (is_group (setup_in c.args.self.now.founding) c.args.uuid) _ (sym c.if-is_taken.false ∙ c.is_taken.ensures)
-    (sym (ap (λ o. is_group (setup_in o) c.args.uuid) c.in-Some.is))
+    second (is_taken_in c.args.self.now.servers c.args.number c.args.uuid) (is_group (setup_in c.args.self.now.founding) c.args.uuid) c.eq.result (sym c.if-is_taken.false ∙ c.is_taken.ensures)
+    (c.eq.ensures ∙ sym (ap (λ o. is_group (setup_in o) c.args.uuid) c.in-Some.is))

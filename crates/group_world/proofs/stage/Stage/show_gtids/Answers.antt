@@ -8,5 +8,5 @@ use Rattle.group_world.proofs.stage.Stage.show_gtids.Goals as goal
 
 pub returns-in_ok-look-in-Some : goal.returns-in_ok-look-in-Some
 returns-in_ok-look-in-Some c =
-    seen show_gtids c.args.server c.args.self.now c.tell.new.self c.in-Some.member.now c.in_ok-look.look c.tell.result
-    (λ ss a. subst (HasMember (running_of (at_number c.args.server ss))) (ap option_copied c.in-Some.is) (c.member.ensures ss a)) c.in_ok-look.ensures c.tell.ensures
+    seen show_gtids c.args.server c.args.self.now c.tell.new.self c.in-Some.member.now c.in_ok-look-in-Some.look c.tell.result
+    (λ ss a. subst (HasMember (running_of (at_number c.args.server ss))) (ap option_copied c.in-Some.is) (c.member.ensures ss a)) c.in_ok-look-in-Some.ensures c.tell.ensures
