@@ -45,7 +45,7 @@ inserted (s ∷ ss) (z ∷ zs) t y a k n = go (s.number == t.number) refl (nat_l
     go false q true f r =
         let same : nat_lt t.number z.number ≡ true = subst (λ m. nat_lt t.number m ≡ true) (sym a.0.number) f in
         let first : under t.number (z ∷ zs) ≡ 0 = rw same refl in
-        rw (q, f, with_server) (rw first (k, a.0, a.1))
+        rw (q, f, with_server) (rw first (k, (a.0, a.1)))
     go false q false f r =
         let same : nat_lt t.number z.number ≡ false = subst (λ m. nat_lt t.number m ≡ false) (sym a.0.number) f in
         let later : under t.number (z ∷ zs) ≡ suc (under t.number zs) = rw same (omega arith) in

@@ -53,7 +53,7 @@ busy n via w h = go w.setup (server_at w n) (member_at w via) h
     go None o m e = refl
     go (Some t) None m e = refl
     go (Some t) (Some s) None e = refl
-    go (Some t) (Some s) (Some a) e = rw e refl
+    go (Some t) (Some s) (Some a) e = rw (e, start_by) refl
 
 -- ---- the first of a joiner
 
@@ -89,7 +89,7 @@ module _ (law : StartedRuns) (n via : ℕ) (t : Setup) (contact : Member) (y : P
   next = started t s contact w
 
   by_it : start_by (Some t) (Some s) (Some contact) w ≡ next
-  by_it = let none : is_some s.running ≡ false = ap is_some r.stopped in rw none refl
+  by_it = let none : is_some s.running ≡ false = ap is_some r.stopped in rw (none, start_by) refl
 
   is_it : move (Starts n via) w ≡ next
   unfolding move

@@ -60,7 +60,7 @@ default_is_uuid n h = record { long = refl; bytes = let small : nat_lt ((n / 10)
 
 no_default : (g : List ℕ) (n k : ℕ) → is_default_of_other g 0 k ≡ false → 1 ≤ n → n ≤ k → bytes_eq (default_uuid n) g ≡ false
 no_default g n zero h above below = absurd (omega (arith, above, below))
-no_default g n (suc k) h above below = go (n == suc k) refl
+no_default g n (suc k) h above below = go (n == suc k) refl (no_default g n k)
   where
     or_left : (b c : Bool) → (b || c) ≡ false → b ≡ false
     or_left true c e = e
@@ -70,22 +70,22 @@ no_default g n (suc k) h above below = go (n == suc k) refl
     or_right true c e = absurd (cc e)
     or_right false c e = e
 
-    go : (b : Bool) → (n == suc k) ≡ b → bytes_eq (default_uuid n) g ≡ false
-    go true e =
+    go : (b : Bool) → (n == suc k) ≡ b → (is_default_of_other g 0 k ≡ false → 1 ≤ n → n ≤ k → bytes_eq (default_uuid n) g ≡ false) → bytes_eq (default_uuid n) g ≡ false
+    go true e r =
         let is : n ≡ suc k = grind (arith, nat_tests) in
         let zero_not : not (suc k == 0) ≡ true = grind (arith, nat_tests) in
         let here : bytes_eq (default_uuid (suc k)) g ≡ false = ap (λ b. b && bytes_eq (default_uuid (suc k)) g) (sym zero_not) ∙ or_left (not (suc k == 0) && bytes_eq (default_uuid (suc k)) g) (is_default_of_other g 0 k) h in
         subst (λ m. bytes_eq (default_uuid m) g ≡ false) (sym is) here
-    go false e = no_default g n k (or_right (not (suc k == 0) && bytes_eq (default_uuid (suc k)) g) (is_default_of_other g 0 k) h) above (grind (arith, nat_tests))
+    go false e r = r (or_right (not (suc k == 0) && bytes_eq (default_uuid (suc k)) g) (is_default_of_other g 0 k) h) above (grind (arith, nat_tests))
 
 not_uuid : (g : List ℕ) (ss : List Server) (s : Server) → list_any (λ x. bytes_eq x.uuid g) ss ≡ false → In s ss → bytes_eq s.uuid g ≡ false
 not_uuid g [] s h i = absurd i
-not_uuid g (x ∷ ss) s h i = go (bytes_eq x.uuid g) refl h i
+not_uuid g (x ∷ ss) s h i = go (bytes_eq x.uuid g) refl h i (not_uuid g ss s)
   where
-    go : (b : Bool) → bytes_eq x.uuid g ≡ b → (b || list_any (λ y. bytes_eq y.uuid g) ss) ≡ false → In s (x ∷ ss) → bytes_eq s.uuid g ≡ false
-    go true q k m = absurd (cc k)
-    go false q k (inl e) = subst (λ y. bytes_eq y.uuid g ≡ false) e q
-    go false q k (inr m) = not_uuid g ss s k m
+    go : (b : Bool) → bytes_eq x.uuid g ≡ b → (b || list_any (λ y. bytes_eq y.uuid g) ss) ≡ false → In s (x ∷ ss) → (list_any (λ y. bytes_eq y.uuid g) ss ≡ false → In s ss → bytes_eq s.uuid g ≡ false) → bytes_eq s.uuid g ≡ false
+    go true q k m r = absurd (cc k)
+    go false q k (inl e) r = subst (λ y. bytes_eq y.uuid g ≡ false) e q
+    go false q k (inr m) r = r k m
 
 fits : (w : World) (g : List ℕ) (n : ℕ) (j : Joiner) (o : Option Server) → AreDeclared w.servers → is_group_taken g w ≡ false → server_at w n ≡ o → founder_by n o ≡ j → 1 ≤ j.inc.server → j.inc.server ≤ 32 → Fits g j
 fits w g n j o known free at is above below = go o at is (has_uuid w g) refl free
@@ -181,7 +181,7 @@ before_all t y x a = record { servers = a.holds.servers; sites = a.holds.sites; 
 
 pub was_founded : (t : Setup) (w : World) → is_some w.setup ≡ true → move (Founds t) w ≡ nothing_happens w
 unfolding move
-was_founded t w h = rw h refl
+was_founded t w h = rw (h, move) refl
 
 or_true : (b : Bool) → (b || true) ≡ true
 or_true true = refl
@@ -189,7 +189,7 @@ or_true false = refl
 
 pub was_taken : (t : Setup) (w : World) → is_group_taken t.limits.group w ≡ true → move (Founds t) w ≡ nothing_happens w
 unfolding move
-was_taken t w h = let both : (is_some w.setup || is_group_taken t.limits.group w) ≡ true = ap (λ b. is_some w.setup || b) h ∙ or_true (is_some w.setup) in rw both refl
+was_taken t w h = let both : (is_some w.setup || is_group_taken t.limits.group w) ≡ true = ap (λ b. is_some w.setup || b) h ∙ or_true (is_some w.setup) in rw (both, move) refl
 
 module _ (law : FoundedRuns) (t : Setup) (ns : List ℕ) (f : Founding) (y : Play) (x z : Stage) (a : Along y x) (fit : IsFounding t) (are : t.founders ≡ founders y.world ns) (same : setup_in (Some f) ≡ Some t)
     (none : is_some y.world.setup ≡ false) (free : is_group_taken t.limits.group y.world ≡ false) where
@@ -201,7 +201,7 @@ module _ (law : FoundedRuns) (t : Setup) (ns : List ℕ) (f : Founding) (y : Pla
 
   is_it : move (Founds t) w ≡ next
   unfolding move
-  is_it = let both : (is_some w.setup || is_group_taken t.limits.group w) ≡ false = ap (λ b. b || is_group_taken t.limits.group w) none ∙ free in rw both refl
+  is_it = let both : (is_some w.setup || is_group_taken t.limits.group w) ≡ false = ap (λ b. b || is_group_taken t.limits.group w) none ∙ free in rw (both, move) refl
 
   some_is : (u : Setup) → next.setup ≡ Some u → IsFounding u
   some_is u e = let is : Some t ≡ Some u = sym (all_setup t t.founders (beginning t w)) ∙ e in subst IsFounding (let q : t ≡ u = cc in q) fit

@@ -30,7 +30,7 @@ names_are p (Operate n o) = refl
 names_are p (Deliver k) = refl
 names_are p (Lose k) = refl
 names_are p (Settle ns) = refl
-names_are p (Work n p) = refl
+names_are p (Work n q) = refl
 names_are p Drain = refl
 names_are p (Tick n k) = refl
 names_are p (Start n via) = refl
@@ -57,7 +57,7 @@ runners_are p (Operate n o) = and_true (p n)
 runners_are p (Deliver k) = refl
 runners_are p (Lose k) = refl
 runners_are p (Settle ns) = refl
-runners_are p (Work n p) = and_true (p n)
+runners_are p (Work n q) = and_true (p n)
 runners_are p Drain = refl
 runners_are p (Tick n k) = and_true (p n)
 runners_are p (Start n via) = and_true (p via)
@@ -98,19 +98,23 @@ runs_as (Some a) r h = ap is_some h
 
 -- ---- the first reason
 
+-- (it gives `rw` the type of its goal)
+as_told : (x : Step) (y : Play) (o : Option Refusal) → refusal x y ≡ o → refusal x y ≡ o
+as_told x y o e = e
+
 abbrev pub Told : Step → Play → Option WorldFault → Type 0
 Told x y o = o ≡ option_map fault_for (refusal x y)
 
 pub at_declared : (x : Step) (y : Play) → meets_declared x y.world ≡ true → Told x y (Some (fault_for Declared))
-at_declared x y h = ap (option_map fault_for) (rw (h, refusal) refl)
+at_declared x y h = sym (ap (option_map fault_for) (as_told x y (Some Declared) (rw (h, refusal) refl)))
 
 module _ (x : Step) (y : Play) (undeclared : meets_declared x y.world ≡ false) where
   pub at_server : list_all (is_declared y.world) (names x) ≡ false → Told x y (Some (fault_for NoServer))
-  at_server h = ap (option_map fault_for) (rw (undeclared, h, refusal) refl)
+  at_server h = sym (ap (option_map fault_for) (as_told x y (Some NoServer) (rw (undeclared, h, refusal) refl)))
 
   module _ (there : list_all (is_declared y.world) (names x) ≡ true) where
     pub at_running : is_in_use x y.world ≡ true → Told x y (Some (fault_for AlreadyRunning))
-    at_running h = ap (option_map fault_for) (rw (undeclared, there, h, refusal) refl)
+    at_running h = sym (ap (option_map fault_for) (as_told x y (Some AlreadyRunning) (rw (undeclared, there, h, refusal) refl)))
 
     module _ (unused : is_in_use x y.world ≡ false) where
       pub at_wire : (o : Option WorldFault) (f : WorldFault) → o ≡ option_map fault_for (wire_refusal x y) → o ≡ Some f → Told x y (Some f)
@@ -118,7 +122,7 @@ module _ (x : Step) (y : Play) (undeclared : meets_declared x y.world ≡ false)
         where
           go : (r : Option Refusal) → wire_refusal x y ≡ r → Some f ≡ option_map fault_for r → Told x y (Some f)
           go None q k = absurd (cc k)
-          go (Some r) q k = k ∙ ap (option_map fault_for) (rw (undeclared, there, unused, q, refusal) refl)
+          go (Some r) q k = k ∙ sym (ap (option_map fault_for) (as_told x y (Some r) (rw (undeclared, there, unused, q, refusal) refl)))
 
       unsent : (o : Option WorldFault) → o ≡ option_map fault_for (wire_refusal x y) → o ≡ None → wire_refusal x y ≡ None
       unsent o h e = go (wire_refusal x y) (sym e ∙ h)
@@ -128,7 +132,7 @@ module _ (x : Step) (y : Play) (undeclared : meets_declared x y.world ≡ false)
           go (Some r) k = absurd (cc k)
 
       pub at_member : (o : Option WorldFault) → o ≡ option_map fault_for (wire_refusal x y) → o ≡ None → all_run x y ≡ false → Told x y (Some (fault_for NoMember))
-      at_member o h e k = let none = unsent o h e in ap (option_map fault_for) (rw (undeclared, there, unused, none, k, refusal) refl)
+      at_member o h e k = let none = unsent o h e in sym (ap (option_map fault_for) (as_told x y (Some NoMember) (rw (undeclared, there, unused, none, k, refusal) refl)))
 
       pub at_none : (o : Option WorldFault) → o ≡ option_map fault_for (wire_refusal x y) → o ≡ None → all_run x y ≡ true → Told x y None
-      at_none o h e k = let none = unsent o h e in ap (option_map fault_for) (rw (undeclared, there, unused, none, k, refusal) refl)
+      at_none o h e k = let none = unsent o h e in sym (ap (option_map fault_for) (as_told x y None (rw (undeclared, there, unused, none, k, refusal) refl)))

@@ -29,7 +29,7 @@ OwnGtids = (w : World) (n : ℕ) (s : Server) → IsRun w → server_at w n ≡ 
 
 pub no_setup : (n : ℕ) (i : Item) (r : List ℕ) (w : World) → w.setup ≡ None → move (WritesRow n i r) w ≡ nothing_happens w
 unfolding move
-no_setup n i r w h = let none : is_some w.setup ≡ false = ap is_some h in rw none refl
+no_setup n i r w h = let none : is_some w.setup ≡ false = ap is_some h in rw (none, move) refl
 
 pub busy : (n : ℕ) (i : Item) (r : List ℕ) (w : World) → is_busy (server_at w n) ≡ true → move (WritesRow n i r) w ≡ nothing_happens w
 unfolding move
@@ -37,7 +37,7 @@ busy n i r w h = go (is_some w.setup) (server_at w n) h
   where
     by : (o : Option Server) → is_busy o ≡ true → write_by i r o w ≡ nothing_happens w
     by None e = refl
-    by (Some s) e = rw e refl
+    by (Some s) e = rw (e, write_by) refl
 
     go : (b : Bool) (o : Option Server) → is_busy o ≡ true → (elim b [ true ↦ write_by i r o w | false ↦ nothing_happens w ]) ≡ nothing_happens w
     go true o e = by o e
@@ -57,11 +57,11 @@ module _ (law : WrittenRuns) (own : OwnGtids) (n : ℕ) (i : Item) (v : List ℕ
   next = written i v s w
 
   by_it : write_by i v (Some s) w ≡ next
-  by_it = let none : is_some s.running ≡ false = ap is_some r.written.stopped in rw none refl
+  by_it = let none : is_some s.running ≡ false = ap is_some r.written.stopped in rw (none, write_by) refl
 
   is_it : move (WritesRow n i v) w ≡ next
   unfolding move
-  is_it = let some : is_some w.setup ≡ true = ap is_some setup in rw some (ap (λ o. write_by i v o w) r.at_it ∙ by_it)
+  is_it = let some : is_some w.setup ≡ true = ap is_some setup in rw (some, move) (ap (λ o. write_by i v o w) r.at_it ∙ by_it)
 
   room : HasRoom w n
   room u h = let same : Some s ≡ Some u = sym r.at_it ∙ h in let is : s ≡ u = cc in subst (λ q. IsNumber (suc (length q.stored.writes))) is (subst IsNumber (ap (λ k. k.number) r.written.gtid) r.written.number)

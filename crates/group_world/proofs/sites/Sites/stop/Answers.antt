@@ -1,5 +1,5 @@
 -- The site of the server changes, if it is there.
-use Rattle.std.proofs.Common.{◌≡◌, ap, refl, sym, ◌∙◌}
+use Rattle.std.proofs.Common.{◌≡◌, ap, refl, ◌∙◌}
 use Rattle.group_world.specs.Changing.{stopped}
 use Rattle.group_world.specs.Sites.{before}
 use Rattle.group_world.proofs.Altered.{changed, none_changes}
