@@ -38,7 +38,7 @@ fn is_refusal(fault: WorldFault) -> bool
 }
 
 /// The world of a script that is made, and the verdicts that were said.
-#[derive(Debug, Drop)]
+#[derive(Drop)]
 pub struct Maker {
     world: World,
     verdicts: Vec<Verdict>,

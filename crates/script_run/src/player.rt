@@ -13,7 +13,7 @@ use report_text::{report, step_text};
 use std::alloc::Global;
 
 /// The world of a script, and which lines stood.
-#[derive(Debug, Drop)]
+#[derive(Drop)]
 pub struct Player {
     world: World,
     placing: Placing,
