@@ -149,6 +149,6 @@ pub greeting_is : (x : Moment) (t : Turns) (b : Ballot) (v : View) (w : Welcome)
 greeting_is x t b v w e p s made few base a st up some =
     let log : a.node.turns ≡ Some t = ap (λ (n : Node). n.turns) (sym st.rest.node) ∙ sym e in
     let same : w ≡ welcome_of a.node t (shown (view a.setup a.life)) =
-        made a.node (ap (λ (n : Node). n.acceptor.promise) (sym st.rest.node) ∙ sym p) ∙ ap (λ y. welcome_of a.node t (shown y)) (s ∙ st.rest.parts.list.view) in
+    made a.node (ap (λ (n : Node). n.acceptor.promise) (sym st.rest.node) ∙ sym p) ∙ ap (λ y. welcome_of a.node t (shown y)) (s ∙ st.rest.parts.list.view) in
     let ever : length t.reading.ever ≤ last_u32 = subst (λ (y : Welcome). length y.ever ≤ last_u32) same few in
     (t, log, same, subst (λ y. IsWelcome y) (sym same) (welcome_is a t st.rest.range (is_well (state a.life) up) log some ever))
