@@ -2,7 +2,7 @@
 use Rattle.std.proofs.Common.{◌≡◌, true, Some, option_copied, refl, sym, ap, subst, ◌∙◌}
 use Rattle.std.specs.List.{find}
 use Rattle.group_rules.specs.Script.{Play}
-use Rattle.group_rules.specs.World.{Starts}
+use Rattle.group_rules.specs.World.{Starts, member_at}
 use Rattle.member_ranges.specs.Ranges.{setup_with}
 use Rattle.world_servers.specs.Naming.{has_number}
 use Rattle.group_world.specs.Changing.{BeginsAt, HaveBegun, is_busy}
@@ -16,7 +16,7 @@ use Rattle.group_world.proofs.stage.Stage.start.Goals as goal
 
 pub returns-in_default-clause-stands : goal.returns-in_default-clause-stands
 returns-in_default-clause-stands c y a =
-    let none = nobody _ (sym (c.running.ensures y.world.servers a.holds.sites) ∙ c.in_default.is) in
+    let none = nobody (member_at y.world c.args.via) (sym (c.running.ensures y.world.servers a.holds.sites) ∙ c.in_default.is) in
     idle c.plays_are_runs.ensures.idle (Starts c.args.server c.args.via) y c.args.self.now c.args.self.now a tt (no_contact c.args.server c.args.via y.world none) a.holds.sites refl refl refl refl refl
 
 pub returns-in_default-founding-clause-stands : goal.returns-in_default-founding-clause-stands
@@ -54,7 +54,7 @@ pub returns-in-Some-2-clause-stands : goal.returns-in-Some-2-clause-stands
 returns-in-Some-2-clause-stands c =
     on_four c.leave.result c.leave.ensures.wire c.leave.ensures.few c.leave.ensures.said c.leave.ensures.beside (λ wire few said beside y a.
     let f = c.in-Some-founding.founding in
-    let who = somebody _ c.in-Some.contact (sym (c.running.ensures y.world.servers a.holds.sites) ∙ c.in-Some.is) in
+    let who = somebody (member_at y.world c.args.via) c.in-Some.contact (sym (c.running.ensures y.world.servers a.holds.sites) ∙ c.in-Some.is) in
     goes_on c.plays_are_runs.ensures.started c.args.server c.args.via (setup_with f.limits f.mode f.founders.items) who.0 y c.args.self.now c.leave.new.self c.in-Some-2.turn a (a.holds.setup ∙ ap setup_in c.in-Some-founding.is) who.1
     (subst (λ i. BeginsAt c.args.server (setup_with f.limits f.mode f.founders.items) i y.world.servers c.in-Some-2.turn c.leave.new.self.sites) (sym who.2)
         (subst (BeginsAt c.args.server (setup_with f.limits f.mode f.founders.items) c.in-Some.contact y.world.servers c.in-Some-2.turn) (sym beside.sites) (began c y a)))
@@ -63,7 +63,7 @@ returns-in-Some-2-clause-stands c =
 pub returns-in-Some-2-clause-full : goal.returns-in-Some-2-clause-full
 returns-in-Some-2-clause-full c = if_err c.leave.result c.leave.ensures.full (λ w h y a.
     let f = c.in-Some-founding.founding in
-    let who = somebody _ c.in-Some.contact (sym (c.running.ensures y.world.servers a.holds.sites) ∙ c.in-Some.is) in
+    let who = somebody (member_at y.world c.args.via) c.in-Some.contact (sym (c.running.ensures y.world.servers a.holds.sites) ∙ c.in-Some.is) in
     closed c.plays_are_runs.ensures.started c.args.server c.args.via (setup_with f.limits f.mode f.founders.items) who.0 y c.args.self.now (record c.args.self.now { sites = c.start.new.self }) c.in-Some-2.turn a
     (a.holds.setup ∙ ap setup_in c.in-Some-founding.is) who.1
     (subst (λ i. BeginsAt c.args.server (setup_with f.limits f.mode f.founders.items) i y.world.servers c.in-Some-2.turn c.start.new.self) (sym who.2) (began c y a)) refl refl w h)
