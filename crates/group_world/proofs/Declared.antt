@@ -1,5 +1,5 @@
 -- A server that is declared.
-use Rattle.std.proofs.Common.{◌≡◌, inl, inr, ℕ, Bool, true, false, Some, None, Option, List, [], append-nil, refl, sym, ap, subst, ◌∙◌}
+use Rattle.std.proofs.Common.{◌≡◌, inl, inr, ℕ, Bool, true, false, Some, None, Option, List, [], ◌∷◌, append-nil, refl, sym, ap, subst, ◌∙◌}
 use Rattle.std.specs.Prelude.{◌==◌, ◌||◌, map}
 use Rattle.std.specs.List.{list_any}
 use Rattle.gtid_sets.specs.Canonical.{IsUuid}
