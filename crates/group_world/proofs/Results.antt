@@ -26,6 +26,6 @@ err_is (Ok x) u P h p = tt
 err_is (Err e) u P h p = subst P (sym h) p
 
 -- nothing is asked of what returns an error
-pub err_done : {A E : Type 0} {P : Type 0} (answer : Result A E) (u : E) → IsErrAnd answer (λ e. e ≡ u) → OnOk answer P
-err_done (Ok x) u h = absurd h
-err_done (Err e) u h = tt
+pub err_done : {A E : Type 0} (answer : Result A E) (u : E) (P : Type 0) → IsErrAnd answer (λ e. e ≡ u) → OnOk answer P
+err_done (Ok x) u P h = absurd h
+err_done (Err e) u P h = tt
