@@ -1,19 +1,16 @@
 -- Why a step is refused.
 use Rattle.std.proofs.Common.{◌≡◌, ℕ, Bool, true, false, Some, None, Option, List, [], ◌∷◌, refl, sym, ap, ◌∙◌}
-use Rattle.std.specs.Prelude.{◌&&◌, option_map, is_some}
+use Rattle.std.specs.Prelude.{◌&&◌, option_map}
 use Rattle.std.specs.List.{list_all}
 use Rattle.gr_ids.specs.declared.levels.Mode.{Mode}
-use Rattle.gr_ids.specs.declared.names.Inc.{Inc}
 use Rattle.group_rules.specs.declared.steps.Step.{Step}
 use Rattle.group_rules.specs.declared.steps.Step.TheVariants.{Server, Block, Found, Session, Once, Operate, Deliver, Lose, Settle, Work, Drain, Tick, Start, Stop, Offline, ShowMembers, ShowSlots, ShowConfig, ShowGtids, ShowRows, ShowQueue, ShowCertifier, ShowKept, ShowWire, Finish}
-use Rattle.group_rules.specs.Member.{Member}
-use Rattle.group_rules.specs.Script.{Play, Refusal, Declared, NoServer, AlreadyRunning, NoMember, all_run, is_in_use, meets_declared, names, needs_running, refusal, wire_refusal}
-use Rattle.group_rules.specs.World.{World, is_declared, is_running}
+use Rattle.group_rules.specs.Script.{Play, Refusal, Declared, NoServer, AlreadyRunning, NoMember, all_run, is_in_use, meets_declared, names, refusal, wire_refusal}
+use Rattle.group_rules.specs.World.{World, is_declared}
 use Rattle.report_text.specs.declared.fault.WorldFault.{WorldFault}
-use Rattle.world_servers.specs.Naming.{AreOf, is_there}
+use Rattle.world_servers.specs.Naming.{is_there}
 use Rattle.world_servers.specs.declared.servers.DeclaredServer.{DeclaredServer}
-use Rattle.group_world.specs.Refusing.{fault_for, others_of, passes, runner_of, server_of}
-use Rattle.group_world.specs.Running.{inc_of}
+use Rattle.group_world.specs.Refusing.{fault_for, others_of, passes, server_of}
 
 -- ---- the servers that are named
 
