@@ -1,5 +1,5 @@
 -- The site of the server begins, if it is there.
-use Rattle.std.proofs.Common.{◌≡◌, true, ap, refl, sym, subst, ◌∙◌}
+use Rattle.std.proofs.Common.{◌≡◌, ap, sym, subst, ◌∙◌}
 use Rattle.group_world.specs.Changing.{is_busy}
 use Rattle.group_world.specs.Sites.{AreSites, before}
 use Rattle.member_ranges.specs.Ranges.{setup_with}
