@@ -1,5 +1,5 @@
 -- A group that is founded.
-use Rattle.std.proofs.Common.{◌≡◌, ◌⊎◌, inl, inr, ℕ, zero, suc, ◌<◌, ◌≤◌, ◌/◌, ◌*◌, ◌+◌, ◌%◌, Bool, true, false, Some, None, Option, List, [], ◌∷◌, ◌++◌, append-nil, append_assoc, refl, sym, ap, subst, ◌∙◌, arith}
+use Rattle.std.proofs.Common.{◌≡◌, ◌⊎◌, inl, inr, ℕ, zero, suc, ◌<◌, ◌≤◌, ◌/◌, ◌*◌, ◌+◌, ◌%◌, Bool, true, false, Some, None, Option, List, [], ◌∷◌, ◌++◌, append-nil, append_assoc, length, refl, sym, ap, subst, ◌∙◌, arith}
 use Rattle.std.specs.Prelude.{◌==◌, ◌||◌, ◌&&◌, not, is_some, map, nat_lt}
 use Rattle.std.specs.List.{list_any}
 use Rattle.std.proofs.lemmas.Bool.Decides.{nat_tests}
@@ -17,17 +17,23 @@ use Rattle.group_rules.specs.declared.said.Said.{Said}
 use Rattle.group_rules.specs.declared.said.Said.TheVariants.{Marked}
 use Rattle.group_rules.specs.Events.{Setup}
 use Rattle.group_rules.specs.Life.{stored}
-use Rattle.group_rules.specs.Script.{Play, founder_by, founders, plays, said_of, with_joiner}
+use Rattle.group_rules.specs.declared.steps.Step.TheVariants.{Found}
+use Rattle.group_rules.specs.Script.{Play, does, founder_by, founders, plays, said_of, with_joiner}
 use Rattle.group_rules.specs.Steps.{found}
-use Rattle.group_rules.specs.World.{Founds, Server, World, default_uuid, dids, found_all, found_at, has_uuid, is_default_of_other, is_group_taken, move, nothing_happens, nothing_stored, server_at}
+use Rattle.group_rules.specs.World.{Founds, Server, World, default_uuid, dids, found_all, found_at, has_uuid, is_default_of_other, is_group_taken, move, nothing_happens, nothing_stored, server_at, with_server}
 use Rattle.group_runs.specs.Runs.{Apart, IsSetup}
-use Rattle.member_ranges.specs.Ranges.{IsFounderAfter, IsFounding}
+use Rattle.member_ranges.specs.Ranges.{IsFounderAfter, IsFounding, setup_with}
+use Rattle.gr_ids.specs.declared.limits.Limits.{Limits}
+use Rattle.gr_ids.specs.declared.levels.Mode.{Mode}
 use Rattle.play_runs.specs.Runs.{IsRun}
-use Rattle.group_world.specs.Founding.{AreFounded}
-use Rattle.group_world.specs.Standing.{Along, AreDeclared, Holds, setup_in}
+use Rattle.group_world.specs.Founding.{AreFounded, IsWithin}
+use Rattle.group_world.specs.Sites.{AreSites}
+use Rattle.group_world.specs.Standing.{Along, AreDeclared, Goes, Holds, setup_in}
+use Rattle.world_servers.specs.Naming.{AreOf}
 use Rattle.group_world.specs.declared.founding.Founding.{Founding}
 use Rattle.group_world.specs.declared.stage.Stage.{Stage}
 use Rattle.group_world.proofs.Finding.{at_in}
+use Rattle.group_world.proofs.Servers.{in_with, rises_with}
 use Rattle.group_world.proofs.Still.{still}
 
 abbrev pub FoundedRuns : Type 0
@@ -35,9 +41,9 @@ FoundedRuns = (w : World) (t : Setup) → IsSetup t → IsRun w → IsRun (move 
 
 -- ---- the founders
 
-in_with : (k j : Joiner) (js : List Joiner) → In k (with_joiner js j) → (j ≡ k) ⊎ In k js
-in_with k j [] h = h
-in_with k j (x ∷ xs) h = go (nat_lt j.inc.server x.inc.server) h (in_with k j xs)
+in_joined : (k j : Joiner) (js : List Joiner) → In k (with_joiner js j) → (j ≡ k) ⊎ In k js
+in_joined k j [] h = h
+in_joined k j (x ∷ xs) h = go (nat_lt j.inc.server x.inc.server) h (in_joined k j xs)
   where
     go : (b : Bool) → In k (elim b [ true ↦ j ∷ x ∷ xs | false ↦ x ∷ with_joiner xs j ]) → (In k (with_joiner xs j) → (j ≡ k) ⊎ In k xs) → (j ≡ k) ⊎ In k (x ∷ xs)
     go true i r = i
@@ -47,7 +53,7 @@ in_with k j (x ∷ xs) h = go (nat_lt j.inc.server x.inc.server) h (in_with k j 
 -- each is the founder of a number
 founder_of : (w : World) (ns : List ℕ) (j : Joiner) → In j (founders w ns) → (n : ℕ) × (founder_by n (server_at w n) ≡ j)
 founder_of w [] j h = absurd h
-founder_of w (n ∷ ns) j h = elim (in_with j (founder_by n (server_at w n)) (founders w ns) h) [ inl e ↦ (n, e) | inr k ↦ founder_of w ns j k ]
+founder_of w (n ∷ ns) j h = elim (in_joined j (founder_by n (server_at w n)) (founders w ns) h) [ inl e ↦ (n, e) | inr k ↦ founder_of w ns j k ]
 
 -- what is known of a founder
 record Fits (g : List ℕ) (j : Joiner) : Type 0 where
@@ -162,6 +168,53 @@ pub said_too : (t : Setup) (j : Joiner) (w : World) (before xs zs : List Said) �
 said_too t j w before xs zs h k = k ∙ (ap (λ l. l ++ Marked j.inc (State Online Founded) ∷ []) h
     ∙ (append_assoc before (said_of w.left) (Marked j.inc (State Online Founded) ∷ []) ∙ ap (λ l. before ++ l) (sym (said_first t j w))))
 
+-- the server of a founder
+abbrev pub founder_at : Setup → Joiner → Server
+founder_at t j = record { number = j.inc.server; uuid = j.uuid; version = j.version; weight = j.weight; starts = 1; stored = nothing_stored; running = Some (found t j) }
+
+pub one_founded : (t : Setup) (j : Joiner) (w : World) (before : List Said) (x z : Stage) → IsUuid j.uuid → AreFounded before w x → AreOf (found_at t j w) z.servers → AreSites (with_server w.servers (founder_at t j)) z.sites
+    → z.said.items ≡ x.said.items ++ Marked j.inc (State Online Founded) ∷ [] → AreFounded before (found_at t j w) z
+one_founded t j w before x z u a servers sites said = record {
+  servers = servers;
+  sites = sites;
+  rising = rises_with (founder_at t j) w.servers a.rising;
+  declared = λ v h. elim (in_with v (founder_at t j) w.servers h) [ inl q ↦ subst (λ s. IsUuid s.uuid) q u | inr q ↦ a.declared v q ];
+  said = said_too t j w before x.said.items z.said.items a.said said;
+}
+
+-- ---- those that are left
+
+-- founding them leads to what founding all leads to
+abbrev pub FoundsOn : Setup → List Joiner → Stage → Stage → Type 0
+FoundsOn t js x z = IsWithin x z × ((w : World) (before : List Said) → AreFounded before w x → (v : World) × AreFounded before v z × (found_all t js v ≡ found_all t t.founders w))
+
+-- and they are founders
+abbrev pub AreLeft : Setup → List Joiner → Stage → Stage → Type 0
+AreLeft t js x z = FoundsOn t js x z × ((j : Joiner) → In j js → In j t.founders)
+
+pub none_yet : (t : Setup) (js : List Joiner) (x : Stage) → js ≡ t.founders → AreLeft t js x x
+none_yet t js x e = ((record { wire = refl; block = refl }, λ w before a. (w, a, ap (λ l. found_all t l w) e)), λ j i. subst (In j) e i)
+
+pub is_founder : (t : Setup) (left : List Joiner) (j : Joiner) (js : List Joiner) (x z : Stage) → left ≡ j ∷ js → AreLeft t left x z → In j t.founders
+is_founder t left j js x z e h = h.1 j (subst (In j) (sym e) (inl refl))
+
+founds_one : (t : Setup) (j : Joiner) (js : List Joiner) (x y z : Stage) → FoundsOn t (j ∷ js) x y → IsWithin y z → ((w : World) (before : List Said) → AreFounded before w y → AreFounded before (found_at t j w) z) → FoundsOn t js x z
+founds_one t j js x y z h k f = (record { wire = k.wire ∙ h.0.wire; block = k.block ∙ h.0.block }, λ w before a. let r = h.1 w before a in (found_at t j r.0, f r.0 before r.1, r.2))
+
+pub one_more : (t : Setup) (left : List Joiner) (j : Joiner) (js : List Joiner) (x y z : Stage) → left ≡ j ∷ js → AreLeft t left x y → IsWithin y z
+    → ((w : World) (before : List Said) → AreFounded before w y → AreFounded before (found_at t j w) z) → AreLeft t js x z
+one_more t left j js x y z e h k f = (founds_one t j js x y z (subst (λ l. FoundsOn t l x y) e h.0) k f, λ i m. h.1 i (subst (In i) (sym e) (inr m)))
+
+empty : (js : List Joiner) → length js ≡ 0 → js ≡ []
+empty [] e = refl
+empty (j ∷ js) e = absurd (omega (arith, e))
+
+pub all_founded : (t : Setup) (left : List Joiner) (x z : Stage) → length left ≡ 0 → AreLeft t left x z → (w : World) (before : List Said) → AreFounded before w x → AreFounded before (found_all t t.founders w) z
+all_founded t left x z e h w before a =
+    let k : FoundsOn t [] x z = subst (λ l. FoundsOn t l x z) (empty left e) h.0 in
+    let r = k.1 w before a in
+    subst (λ v. AreFounded before v z) r.2 r.1
+
 -- ---- the whole founding
 
 all_sent : (t : Setup) (js : List Joiner) (w : World) → (found_all t js w).sent ≡ w.sent
@@ -218,3 +271,28 @@ module _ (law : FoundedRuns) (t : Setup) (ns : List ℕ) (f : Founding) (y : Pla
         run = subst IsRun is_it (law w t (is_setup w t ns a.holds.declared free are fit) a.holds.run);
       })
       h.said block wire
+
+-- ---- what its code tells
+
+unfounded : (o : Option Founding) → is_some o ≡ false → is_some (setup_in o) ≡ false
+unfounded None h = refl
+unfounded (Some f) h = h
+
+pub any_setup : (o : Option Founding) → is_some o ≡ true → is_some (setup_in o) ≡ true
+any_setup None h = h
+any_setup (Some f) h = refl
+
+pub founds_with : FoundedRuns → (l : Limits) (m : Mode) (js : List Joiner) (ns : List ℕ) (f : Founding) (y : Play) (x s z : Stage) → Along y x → IsFounding (setup_with l m js) → js ≡ founders y.world ns → setup_in (Some f) ≡ Some (setup_with l m js)
+    → is_some x.founding ≡ false → is_group_taken l.group y.world ≡ false → ((w : World) (before : List Said) → AreFounded before w x → AreFounded before (found_all (setup_with l m js) js w) s) → IsWithin x s
+    → z ≡ record s { founding = Some f } → Along (plays (Founds (setup_with l m (founders y.world ns))) y) z
+founds_with law l m js ns f y x s z a fit are same none free all within e =
+    let t : Setup = setup_with l m js in
+    let h = all (beginning t y.world) x.said.items (before_all t y x a) in
+    let unset : is_some y.world.setup ≡ false = ap is_some a.holds.setup ∙ unfounded x.founding none in
+    let is = founds law t ns f y x (record s { founding = Some f }) a fit are same unset free (record { servers = h.servers; sites = h.sites; rising = h.rising; declared = h.declared; said = h.said }) refl within.block within.wire in
+    subst (λ k. Along (plays (Founds (setup_with l m k)) y) z) are (subst (Along (plays (Founds t) y)) (sym e) is)
+
+-- the block is that of the play
+pub founds_as : (g : List ℕ) (m : Mode) (h e q : ℕ) (ns : List ℕ) (x z : Stage)
+    → Goes (λ y. plays (Founds (setup_with (record { group = g; horizon = h; expel = e; majority = q; block = x.block }) m (founders y.world ns))) y) x z → Goes (does (Found g m h e q ns)) x z
+founds_as g m h e q ns x z k y a = subst (λ b. Along (plays (Founds (setup_with (record { group = g; horizon = h; expel = e; majority = q; block = b }) m (founders y.world ns))) y) z) a.block (k y a)

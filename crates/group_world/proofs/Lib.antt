@@ -25,6 +25,7 @@ mod Parts
 mod Changed
 mod Workers
 mod Turns
+mod Unmoved
 mod Fitting
 mod Calls
 mod Reported

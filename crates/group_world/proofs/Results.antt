@@ -24,3 +24,8 @@ on_four (Err e) p q s t k = tt
 pub err_is : {A E : Type 0} (answer : Result A E) (u : E) (P : E → Type 0) → IsErrAnd answer (λ e. e ≡ u) → P u → IfErr answer P
 err_is (Ok x) u P h p = tt
 err_is (Err e) u P h p = subst P (sym h) p
+
+-- no success is returned there
+pub no_ok : {A E : Type 0} (P : Type 0) (r : Result A E) (u : E) → IsErrAnd r (λ e. e ≡ u) → OnOk r P
+no_ok P (Ok x) u h = absurd h
+no_ok P (Err e) u h = tt

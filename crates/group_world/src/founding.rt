@@ -114,23 +114,25 @@ impl Stage {
         ensures founded { OnOk result ((w : World) (said : List SaidThing) → AreFounded said w self.old → AreFounded said (found_all (setup_with founding.now.limits founding.now.mode founding.now.founders.items) founding.now.founders.items w) self.new) }
         ensures within { OnOk result (IsWithin self.old self.new) }
     {
-        for founder in &founding.founders {
-            self.found_at(founding, *founder)?;
+        let mut left = founding.founders.as_slice();
+        while let Some((founder, behind)) = left.split_first() {
+            self.found_at(founding, founder)?;
+            left = behind;
         }
         Ok(())
     }
 
     // The first incarnation of its server starts.
-    fn found_at(&mut self, founding: &Founding, me: Joiner) -> Result<(), Memory>
+    fn found_at(&mut self, founding: &Founding, me: &Joiner) -> Result<(), Memory>
         requires founding { IsFounding (setup_with founding.now.limits founding.now.mode founding.now.founders.items) }
-        requires founder { In me founding.now.founders.items }
-        ensures founded { OnOk result ((w : World) (said : List SaidThing) → AreFounded said w self.old → AreFounded said (found_at (setup_with founding.now.limits founding.now.mode founding.now.founders.items) me w) self.new) }
+        requires founder { In me.now founding.now.founders.items }
+        ensures founded { OnOk result ((w : World) (said : List SaidThing) → AreFounded said w self.old → AreFounded said (found_at (setup_with founding.now.limits founding.now.mode founding.now.founders.items) me.now w) self.new) }
         ensures within { OnOk result (IsWithin self.old self.new) }
     {
         uuid_fits(&me.uuid);
         let member = Member::found(
             self.alloc,
-            me,
+            *me,
             &founding.founders,
             founding.mode,
             founding.limits,
