@@ -13,13 +13,21 @@ use Rattle.group_rules.specs.Member.{Member}
 use Rattle.group_rules.specs.Script.{Play, letter, plays, is_full, said_of}
 use Rattle.group_rules.specs.Steps.{start}
 use Rattle.group_rules.specs.World.{Server, Starts, World, dids, joiner_of, member_at, move, nothing_happens, server_at, start_by, started}
+use Rattle.kept_server.specs.Keeping.{KeptFor}
+use Rattle.kept_server.specs.declared.kept.KeptServer.{KeptServer}
+use Rattle.member_sketch.specs.Standing.{HasStarted}
+use Rattle.member_sketch.specs.declared.member.Started.{Started as JustBegun}
 use Rattle.world_servers.specs.Naming.{declared_of}
 use Rattle.world_wire.specs.Faults.{IsCause}
 use Rattle.world_wire.specs.declared.fault.WireFault.{WireFault}
 use Rattle.play_runs.specs.Runs.{IsRun}
 use Rattle.group_world.specs.Changing.{BeginsAt, IsBegin, begun, is_busy, joining}
 use Rattle.group_world.specs.Events.{messages_in, said_by}
+use Rattle.group_world.specs.Running.{inc_of}
+use Rattle.group_world.specs.Sites.{IsSite, IsStay}
 use Rattle.group_world.specs.Standing.{Along, AreDeclared, Closes, Holds, setup_in}
+use Rattle.group_world.specs.declared.site.Site.{Site}
+use Rattle.group_world.specs.declared.site.Stay.TheVariants.{Stopped, Running}
 use Rattle.group_world.specs.declared.site.Turn.{Turn}
 use Rattle.group_world.specs.declared.stage.Stage.{Stage}
 use Rattle.group_world.proofs.Finding.{at_in}
@@ -68,6 +76,29 @@ stored_of t j x i = refl
 said_first : (t : Setup) (j : Joiner) (x : Stored) (i : Inc) → said_of (dids j.inc (start t j x i).life) ≡ said_by j.inc (State Offline Started ∷ [])
 unfolding start
 said_first t j x i = refl
+
+-- the site of a server whose incarnation began
+pub site_begins : (t : Setup) (via : Inc) (s : Server) (z : Site) (k : KeptServer) (me : Joiner) (x : JustBegun) (o : Turn) → IsSite s z → z.stay ≡ Stopped k → me ≡ joiner_of s (suc s.starts)
+    → ((y : Stored) → KeptFor y k → HasStarted (start t me y via) x) → o.inc ≡ me.inc → o.left.marks.items ≡ State Offline Started ∷ [] → o.left.sent.items ≡ x.sent.items
+    → (s.running ≡ None) × IsBegin (joining t via s) o × IsSite (begun t via s) (record { number = z.number; starts = me.inc.start; stay = Running x.member })
+site_begins t via s z k me x o h e m b inc marks sent =
+    let p : IsStay s (Stopped k) = subst (IsStay s) e h.stay in
+    let a : HasStarted (joining t via s) x = subst (λ j. HasStarted (start t j s.stored via) x) m (b s.stored p.1) in
+    let first = joiner_of s (suc s.starts) in (
+      p.0,
+      record { inc = inc ∙ (ap (λ j. j.inc) m ∙ sym (me_of t first s.stored via)); marks = marks; sent = sent ∙ a.sent; spellable = a.spellable },
+      record { number = h.number; starts = ap (λ j. j.inc.start) m; stay = (joining t via s, refl, a.stands, stored_of t first s.stored via) },
+    )
+
+-- ---- who runs
+
+pub nobody : (o : Option Member) → inc_of o ≡ None → o ≡ None
+nobody None e = refl
+nobody (Some a) e = absurd (cc e)
+
+pub somebody : (o : Option Member) (i : Inc) → inc_of o ≡ Some i → (a : Member) × (o ≡ Some a) × (a.me.inc ≡ i)
+somebody None i e = absurd (cc e)
+somebody (Some a) i e = let same : a.me.inc ≡ i = cc in (a, refl, same)
 
 -- ---- where one does
 

@@ -1,12 +1,12 @@
 -- A server that is declared.
-use Rattle.std.proofs.Common.{◌≡◌, inl, inr, ℕ, Bool, true, false, Some, None, Option, List, [], append-nil, refl, sym, ap, subst, ◌∙◌}
+use Rattle.std.proofs.Common.{◌≡◌, inl, inr, ℕ, Bool, true, false, Some, None, Option, List, [], ◌∷◌, append-nil, refl, sym, ap, subst, ◌∙◌}
 use Rattle.std.specs.Prelude.{◌==◌, ◌||◌, map}
 use Rattle.std.specs.List.{list_any}
 use Rattle.gtid_sets.specs.Canonical.{IsUuid}
 use Rattle.node_rules.specs.Lists.{In}
 use Rattle.group_rules.specs.Script.{Play, plays}
-use Rattle.group_rules.specs.World.{Declares, Server, World, declare, is_group, is_taken, move, nothing_happens, nothing_stored, with_server}
-use Rattle.world_servers.specs.Naming.{AreOf, is_taken_in, is_there, with_declared}
+use Rattle.group_rules.specs.World.{Declares, Server, World, declare, is_default_of_other, is_group, is_taken, move, nothing_happens, nothing_stored, with_server}
+use Rattle.world_servers.specs.Naming.{AreOf, has_uuid, is_taken_in, is_there, with_declared}
 use Rattle.world_servers.specs.declared.servers.DeclaredServer.{DeclaredServer}
 use Rattle.play_runs.specs.Runs.{IsRun}
 use Rattle.group_world.specs.Sites.{AreSites, at_number}
@@ -37,11 +37,11 @@ or_first false c e = refl
 
 -- one that isn't taken isn't there
 pub untaken_there : (xs : List DeclaredServer) (n : ℕ) (u : List ℕ) (o : Bool) → (is_taken_in xs n u || o) ≡ false → is_there xs n ≡ false
-untaken_there xs n u o e = or_first (is_there xs n) _ (or_first (is_taken_in xs n u) o e)
+untaken_there xs n u o e = or_first (is_there xs n) (has_uuid xs u || is_default_of_other u n 32) (or_first (is_taken_in xs n u) o e)
 
 pub taken_idles : (d : DeclaredServer) (w : World) → is_taken d.number d.uuid w ≡ true → move (Declares d.number d.uuid d.version d.weight) w ≡ nothing_happens w
 unfolding move
-taken_idles d w h = rw h refl
+taken_idles d w h = rw (h, move) refl
 
 -- ---- it isn't
 
@@ -62,7 +62,7 @@ module _ (law : DeclaredRuns) (d : DeclaredServer) (y : Play) (x z : Stage) (a :
 
   is_it : move (Declares d.number d.uuid d.version d.weight) w ≡ next
   unfolding move
-  is_it = rw free refl
+  is_it = rw (free, move) refl
 
   known : AreDeclared next.servers
   known v h = elim (in_with v (fresh d) w.servers h) [ inl q ↦ subst (λ u. IsUuid u.uuid) q uuid | inr q ↦ a.holds.declared v q ]

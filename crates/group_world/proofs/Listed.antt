@@ -1,8 +1,10 @@
 -- What is declared of the servers of a world.
 use Rattle.std.proofs.Common.{◌≡◌, ℕ, Bool, true, false, Option, Some, None, List, [], ◌∷◌, refl, sym, ap, subst, ◌∙◌}
-use Rattle.std.specs.Prelude.{◌==◌, ◌||◌, map}
+use Rattle.std.specs.Prelude.{◌==◌, ◌||◌, ◌&&◌, map}
 use Rattle.std.specs.List.{find}
-use Rattle.std.proofs.lemmas.Bool.{eqb-true}
+use Rattle.std.proofs.lemmas.Bool.{and_parts, eqb-true}
+use Rattle.std.proofs.lemmas.Slice.Eq.{bytes_eq-Decides}
+use Rattle.gr_ids.specs.Names.{bytes_eq}
 use Rattle.group_rules.specs.World.{Server, World, with_server}
 use Rattle.world_servers.specs.Naming.{AreOf, declared_of, has_number, is_there, with_declared}
 use Rattle.world_servers.specs.declared.servers.DeclaredServer.{DeclaredServer}
@@ -30,6 +32,18 @@ number_of n (x ∷ xs) d h = go (x.number == n) refl (number_of n xs d)
         let same : x ≡ d = cc in
         subst (λ y. y.number ≡ n) same (eqb-true x.number n q)
     go false q r = let later : find (has_number n) xs ≡ Some d = rw q at h in r later
+
+-- what its test finds equal is one
+pub same_server : (x y : DeclaredServer) → (((x.number == y.number) && bytes_eq x.uuid y.uuid) && (bytes_eq x.version y.version && (x.weight == y.weight))) ≡ true → x ≡ y
+same_server x y h =
+    let p = and_parts ((x.number == y.number) && bytes_eq x.uuid y.uuid) (bytes_eq x.version y.version && (x.weight == y.weight)) h in
+    let q = and_parts (x.number == y.number) (bytes_eq x.uuid y.uuid) p.0 in
+    let r = and_parts (bytes_eq x.version y.version) (x.weight == y.weight) p.1 in
+    let number : x.number ≡ y.number = eqb-true x.number y.number q.0 in
+    let uuid : x.uuid ≡ y.uuid = (bytes_eq-Decides x.uuid y.uuid).0 q.1 in
+    let version : x.version ≡ y.version = (bytes_eq-Decides x.version y.version).0 r.0 in
+    let weight : x.weight ≡ y.weight = eqb-true x.weight y.weight r.1 in
+    λ k. record { number = number k; uuid = uuid k; version = version k; weight = weight k }
 
 -- ---- those of the world
 

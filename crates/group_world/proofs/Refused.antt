@@ -2,6 +2,7 @@
 use Rattle.std.proofs.Common.{◌≡◌, ℕ, Bool, true, false, Some, None, Option, List, [], ◌∷◌, refl, sym, ap, ◌∙◌}
 use Rattle.std.specs.Prelude.{◌&&◌, option_map, is_some}
 use Rattle.std.specs.List.{list_all}
+use Rattle.gr_ids.specs.declared.levels.Mode.{Mode}
 use Rattle.gr_ids.specs.declared.names.Inc.{Inc}
 use Rattle.group_rules.specs.declared.steps.Step.{Step}
 use Rattle.group_rules.specs.declared.steps.Step.TheVariants.{Server, Block, Found, Session, Once, Operate, Deliver, Lose, Settle, Work, Drain, Tick, Start, Stop, Offline, ShowMembers, ShowSlots, ShowConfig, ShowGtids, ShowRows, ShowQueue, ShowCertifier, ShowKept, ShowWire, Finish}
@@ -73,6 +74,34 @@ runners_are p (ShowCertifier n) = and_true (p n)
 runners_are p (ShowKept n) = and_true (p n)
 runners_are p ShowWire = refl
 runners_are p (Finish n) = and_true (p n)
+
+-- a step that declares no server and founds no group meets nothing that is declared
+pub declares_nothing : (x : Step) (w : World) → ((n : ℕ) (u v : List ℕ) (g : ℕ) → x ≡ Server n u v g → ⊥) → ((g : List ℕ) (m : Mode) (h e q : ℕ) (ns : List ℕ) → x ≡ Found g m h e q ns → ⊥) → false ≡ meets_declared x w
+declares_nothing (Server n u v g) w a b = absurd (a n u v g refl)
+declares_nothing (Block k) w a b = refl
+declares_nothing (Found g m h e q ns) w a b = absurd (b g m h e q ns refl)
+declares_nothing (Session n s r) w a b = refl
+declares_nothing (Once n s c) w a b = refl
+declares_nothing (Operate n o) w a b = refl
+declares_nothing (Deliver k) w a b = refl
+declares_nothing (Lose k) w a b = refl
+declares_nothing (Settle ns) w a b = refl
+declares_nothing (Work n q) w a b = refl
+declares_nothing Drain w a b = refl
+declares_nothing (Tick n k) w a b = refl
+declares_nothing (Start n via) w a b = refl
+declares_nothing (Stop n) w a b = refl
+declares_nothing (Offline n i r) w a b = refl
+declares_nothing (ShowMembers n) w a b = refl
+declares_nothing (ShowSlots n) w a b = refl
+declares_nothing (ShowConfig n t) w a b = refl
+declares_nothing (ShowGtids n) w a b = refl
+declares_nothing (ShowRows n) w a b = refl
+declares_nothing (ShowQueue n) w a b = refl
+declares_nothing (ShowCertifier n) w a b = refl
+declares_nothing (ShowKept n) w a b = refl
+declares_nothing ShowWire w a b = refl
+declares_nothing (Finish n) w a b = refl
 
 passes_as : (p q : ℕ → Bool) → ((n : ℕ) → p n ≡ q n) → (o : Option ℕ) → passes p o ≡ passes q o
 passes_as p q h None = refl

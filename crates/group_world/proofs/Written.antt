@@ -1,6 +1,6 @@
 -- A row that is written offline: the world afterwards.
 use Rattle.std.proofs.Common.{◌≡◌, inl, inr, ℕ, suc, length, Bool, true, false, Some, None, Option, List, [], ◌∷◌, ◌++◌, refl, sym, ap, subst, ◌∙◌}
-use Rattle.std.specs.Prelude.{is_some, map}
+use Rattle.std.specs.Prelude.{is_some, map, not}
 use Rattle.gr_ids.specs.declared.names.Gtid.{Gtid}
 use Rattle.gtid_sets.specs.Canonical.{IsNumber, IsUuid}
 use Rattle.key_items.specs.declared.item.Item.{Item}
@@ -8,12 +8,14 @@ use Rattle.group_rules.specs.declared.said.Said.TheVariants.{Offline as WroteOff
 use Rattle.group_rules.specs.Events.{Setup, Stored}
 use Rattle.group_rules.specs.Script.{Play, plays}
 use Rattle.group_rules.specs.World.{Server, World, WritesRow, move, nothing_happens, server_at, write_by, written}
+use Rattle.member_ranges.specs.Ranges.{setup_with}
 use Rattle.group_promises.specs.Promises.{IsApart}
 use Rattle.world_servers.specs.Naming.{declared_of}
 use Rattle.play_runs.specs.Runs.{HasRoom, IsRun}
 use Rattle.group_world.specs.Changing.{is_busy}
 use Rattle.group_world.specs.Standing.{Along, AreDeclared, Holds, setup_in}
 use Rattle.group_world.specs.Writing.{WritesAt, after_write}
+use Rattle.group_world.specs.declared.founding.Founding.{Founding}
 use Rattle.group_world.specs.declared.stage.Stage.{Stage}
 use Rattle.group_world.proofs.Finding.{at_in}
 use Rattle.group_world.proofs.Servers.{in_with, map_with, rises_with}
@@ -24,6 +26,16 @@ WrittenRuns = (w : World) (n : ℕ) (i : Item) (row : List ℕ) → HasRoom w n 
 
 abbrev pub OwnGtids : Type 0
 OwnGtids = (w : World) (n : ℕ) (s : Server) → IsRun w → server_at w n ≡ Some s → s.running ≡ None → IsApart s.uuid s.stored
+
+-- ---- whether a group is founded
+
+pub unset : (o : Option Founding) (r : Bool) → is_some o ≡ not r → r ≡ true → setup_in o ≡ None
+unset None r h e = refl
+unset (Some f) r h e = absurd (let k : true ≡ false = h ∙ ap not e in cc)
+
+pub set : (o : Option Founding) (r : Bool) → is_some o ≡ not r → r ≡ false → (t : Setup) × (setup_in o ≡ Some t)
+set None r h e = absurd (let k : false ≡ true = h ∙ ap not e in cc)
+set (Some f) r h e = (setup_with f.limits f.mode f.founders.items, refl)
 
 -- ---- where none can be
 

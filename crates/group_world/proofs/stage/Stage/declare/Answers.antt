@@ -1,11 +1,11 @@
 -- It is taken, or stands among the others.
 use Rattle.std.proofs.Common.{◌≡◌, true, false, refl, sym, ◌∙◌}
 use Rattle.group_rules.specs.Script.{Play}
-use Rattle.group_rules.specs.World.{Declares, is_taken}
-use Rattle.group_world.specs.Standing.{Along}
-use Rattle.group_world.proofs.Declared.{declared, fresh, taken_idles, taken_is}
+use Rattle.group_rules.specs.World.{Declares, is_group, is_taken}
+use Rattle.group_world.specs.Standing.{Along, setup_in}
+use Rattle.group_world.proofs.Declared.{declared, fresh, taken_idles, taken_is, untaken_there}
 use Rattle.group_world.proofs.Idle.{idle}
-use Rattle.group_world.proofs.Results.{on_ok}
+use Rattle.group_world.proofs.Results.{err_done, on_ok}
 use Rattle.group_world.proofs.stage.Stage.declare.Goals as goal
 
 pub returns-then-is_taken : goal.returns-then-is_taken
@@ -22,3 +22,9 @@ returns c = on_ok c.declare.result c.declare.ensures.ok (λ h y a.
     (h ∙ c.servers_are_those_of_the_world.ensures.declared y.world c.args.self.now.servers d.number d.uuid d.version d.weight a.holds.servers)
     (c.in_ok-put.ensures y.world.servers (fresh d) a.holds.rising a.holds.sites (record { number = refl; starts = refl; stay = (refl, c.new.ensures) }))
     refl refl refl refl)
+
+pub declare-requires : goal.declare-requires
+declare-requires c = untaken_there c.args.self.now.servers c.args.server.number c.args.server.uuid (is_group (setup_in c.args.self.now.founding) c.args.server.uuid) (sym c.is_taken.ensures ∙ c.if-is_taken.false)
+
+pub returns-in_err-put : goal.returns-in_err-put
+returns-in_err-put c = err_done c.from_residual.result c.in_err-put.field-0.0 c.from_residual.ensures.1
