@@ -1,16 +1,14 @@
 -- A server that is declared.
-use Rattle.std.proofs.Common.{◌≡◌, inl, inr, ℕ, Bool, true, false, Some, None, Option, List, [], ◌∷◌, append-nil, refl, sym, ap, subst, ◌∙◌}
-use Rattle.std.specs.Prelude.{◌==◌, ◌||◌, map}
-use Rattle.std.specs.List.{list_any}
+use Rattle.std.proofs.Common.{◌≡◌, inl, inr, ℕ, Bool, true, false, None, List, append-nil, refl, sym, ap, subst, ◌∙◌}
+use Rattle.std.specs.Prelude.{◌||◌}
 use Rattle.gtid_sets.specs.Canonical.{IsUuid}
-use Rattle.node_rules.specs.Lists.{In}
 use Rattle.group_rules.specs.Script.{Play, plays}
 use Rattle.group_rules.specs.World.{Declares, Server, World, declare, is_default_of_other, is_group, is_taken, move, nothing_happens, nothing_stored, with_server}
-use Rattle.world_servers.specs.Naming.{AreOf, has_uuid, is_taken_in, is_there, with_declared}
+use Rattle.world_servers.specs.Naming.{AreOf, has_uuid, is_taken_in, is_there}
 use Rattle.world_servers.specs.declared.servers.DeclaredServer.{DeclaredServer}
 use Rattle.play_runs.specs.Runs.{IsRun}
-use Rattle.group_world.specs.Sites.{AreSites, at_number}
-use Rattle.group_world.specs.Standing.{Along, AreDeclared, Holds, setup_in}
+use Rattle.group_world.specs.Sites.{AreSites}
+use Rattle.group_world.specs.Standing.{Along, AreDeclared, setup_in}
 use Rattle.group_world.specs.declared.stage.Stage.{Stage}
 use Rattle.group_world.proofs.Servers.{in_with, rises_with}
 use Rattle.group_world.proofs.Still.{still}
@@ -44,14 +42,6 @@ unfolding move
 taken_idles d w h = rw (h, move) refl
 
 -- ---- it isn't
-
-undeclared : (n : ℕ) (ss : List Server) → list_any (λ s. s.number == n) ss ≡ false → at_number n ss ≡ None
-undeclared n [] h = refl
-undeclared n (s ∷ ss) h = go (s.number == n) refl (undeclared n ss)
-  where
-    go : (b : Bool) → (s.number == n) ≡ b → (list_any (λ t. t.number == n) ss ≡ false → at_number n ss ≡ None) → at_number n (s ∷ ss) ≡ None
-    go true q r = absurd (let t : true ≡ false = sym (ap (λ b. b || list_any (λ t. t.number == n) ss) q) ∙ h in cc)
-    go false q r = rw q (r (sym (ap (λ b. b || list_any (λ t. t.number == n) ss) q) ∙ h))
 
 module _ (law : DeclaredRuns) (d : DeclaredServer) (y : Play) (x z : Stage) (a : Along y x) (uuid : IsUuid d.uuid) (free : is_taken d.number d.uuid y.world ≡ false) where
   abbrev w : World

@@ -34,13 +34,13 @@ number_of n (x ∷ xs) d h = go (x.number == n) refl (number_of n xs d)
     go false q r = let later : find (has_number n) xs ≡ Some d = rw q at h in r later
 
 -- what its test finds equal is one
-pub same_server : (x y : DeclaredServer) → (((x.number == y.number) && bytes_eq x.uuid y.uuid) && (bytes_eq x.version y.version && (x.weight == y.weight))) ≡ true → x ≡ y
+pub same_server : (x y : DeclaredServer) → ((x.number == y.number) && (bytes_eq x.uuid y.uuid && (bytes_eq x.version y.version && (x.weight == y.weight)))) ≡ true → x ≡ y
 same_server x y h =
-    let p = and_parts ((x.number == y.number) && bytes_eq x.uuid y.uuid) (bytes_eq x.version y.version && (x.weight == y.weight)) h in
-    let q = and_parts (x.number == y.number) (bytes_eq x.uuid y.uuid) p.0 in
-    let r = and_parts (bytes_eq x.version y.version) (x.weight == y.weight) p.1 in
-    let number : x.number ≡ y.number = eqb-true x.number y.number q.0 in
-    let uuid : x.uuid ≡ y.uuid = (bytes_eq-Decides x.uuid y.uuid).0 q.1 in
+    let p = and_parts (x.number == y.number) (bytes_eq x.uuid y.uuid && (bytes_eq x.version y.version && (x.weight == y.weight))) h in
+    let q = and_parts (bytes_eq x.uuid y.uuid) (bytes_eq x.version y.version && (x.weight == y.weight)) p.1 in
+    let r = and_parts (bytes_eq x.version y.version) (x.weight == y.weight) q.1 in
+    let number : x.number ≡ y.number = eqb-true x.number y.number p.0 in
+    let uuid : x.uuid ≡ y.uuid = (bytes_eq-Decides x.uuid y.uuid).0 q.0 in
     let version : x.version ≡ y.version = (bytes_eq-Decides x.version y.version).0 r.0 in
     let weight : x.weight ≡ y.weight = eqb-true x.weight y.weight r.1 in
     λ k. record { number = number k; uuid = uuid k; version = version k; weight = weight k }

@@ -1,25 +1,18 @@
 -- Why a step is refused.
 use Rattle.std.proofs.Common.{◌≡◌, ℕ, Bool, true, false, Some, None, Option, List, [], ◌∷◌, refl, sym, ap, ◌∙◌}
-use Rattle.std.specs.Prelude.{◌&&◌, option_map, is_some}
+use Rattle.std.specs.Prelude.{◌&&◌, option_map}
 use Rattle.std.specs.List.{list_all}
 use Rattle.gr_ids.specs.declared.levels.Mode.{Mode}
-use Rattle.gr_ids.specs.declared.names.Inc.{Inc}
 use Rattle.group_rules.specs.declared.steps.Step.{Step}
 use Rattle.group_rules.specs.declared.steps.Step.TheVariants.{Server, Block, Found, Session, Once, Operate, Deliver, Lose, Settle, Work, Drain, Tick, Start, Stop, Offline, ShowMembers, ShowSlots, ShowConfig, ShowGtids, ShowRows, ShowQueue, ShowCertifier, ShowKept, ShowWire, Finish}
-use Rattle.group_rules.specs.Member.{Member}
-use Rattle.group_rules.specs.Script.{Play, Refusal, Declared, NoServer, AlreadyRunning, NoMember, all_run, is_in_use, meets_declared, names, needs_running, refusal, wire_refusal}
-use Rattle.group_rules.specs.World.{World, is_declared, is_running}
+use Rattle.group_rules.specs.Script.{Play, Refusal, Declared, NoServer, AlreadyRunning, NoMember, all_run, is_in_use, meets_declared, names, refusal, wire_refusal}
+use Rattle.group_rules.specs.World.{World, is_declared}
 use Rattle.report_text.specs.declared.fault.WorldFault.{WorldFault}
-use Rattle.world_servers.specs.Naming.{AreOf, is_there}
+use Rattle.world_servers.specs.Naming.{is_there}
 use Rattle.world_servers.specs.declared.servers.DeclaredServer.{DeclaredServer}
-use Rattle.group_world.specs.Refusing.{fault_for, others_of, passes, runner_of, server_of}
-use Rattle.group_world.specs.Running.{inc_of}
+use Rattle.group_world.specs.Refusing.{fault_for, others_of, passes, server_of}
 
 -- ---- the servers that are named
-
-and_true : (b : Bool) → (b && true) ≡ b
-and_true true = refl
-and_true false = refl
 
 pub names_are : (p : ℕ → Bool) (x : Step) → list_all p (names x) ≡ (passes p (server_of x) && list_all p (others_of x))
 names_are p (Server n u v g) = refl
@@ -47,33 +40,6 @@ names_are p (ShowCertifier n) = refl
 names_are p (ShowKept n) = refl
 names_are p ShowWire = refl
 names_are p (Finish n) = refl
-
-pub runners_are : (p : ℕ → Bool) (x : Step) → list_all p (needs_running x) ≡ passes p (runner_of x)
-runners_are p (Server n u v g) = refl
-runners_are p (Block k) = refl
-runners_are p (Found g m h e q ns) = refl
-runners_are p (Session n s r) = and_true (p n)
-runners_are p (Once n s c) = and_true (p n)
-runners_are p (Operate n o) = and_true (p n)
-runners_are p (Deliver k) = refl
-runners_are p (Lose k) = refl
-runners_are p (Settle ns) = refl
-runners_are p (Work n q) = and_true (p n)
-runners_are p Drain = refl
-runners_are p (Tick n k) = and_true (p n)
-runners_are p (Start n via) = and_true (p via)
-runners_are p (Stop n) = and_true (p n)
-runners_are p (Offline n i r) = refl
-runners_are p (ShowMembers n) = and_true (p n)
-runners_are p (ShowSlots n) = and_true (p n)
-runners_are p (ShowConfig n t) = and_true (p n)
-runners_are p (ShowGtids n) = and_true (p n)
-runners_are p (ShowRows n) = and_true (p n)
-runners_are p (ShowQueue n) = and_true (p n)
-runners_are p (ShowCertifier n) = and_true (p n)
-runners_are p (ShowKept n) = and_true (p n)
-runners_are p ShowWire = refl
-runners_are p (Finish n) = and_true (p n)
 
 -- a step that declares no server and founds no group meets nothing that is declared
 pub declares_nothing : (x : Step) (w : World) → ((n : ℕ) (u v : List ℕ) (g : ℕ) → x ≡ Server n u v g → ⊥) → ((g : List ℕ) (m : Mode) (h e q : ℕ) (ns : List ℕ) → x ≡ Found g m h e q ns → ⊥) → false ≡ meets_declared x w
@@ -103,10 +69,6 @@ declares_nothing (ShowKept n) w a b = refl
 declares_nothing ShowWire w a b = refl
 declares_nothing (Finish n) w a b = refl
 
-passes_as : (p q : ℕ → Bool) → ((n : ℕ) → p n ≡ q n) → (o : Option ℕ) → passes p o ≡ passes q o
-passes_as p q h None = refl
-passes_as p q h (Some n) = h n
-
 all_as : (p q : ℕ → Bool) → ((n : ℕ) → p n ≡ q n) → (ns : List ℕ) → list_all p ns ≡ list_all q ns
 all_as p q h [] = refl
 all_as p q h (n ∷ ns) = ap (λ b. b && list_all p ns) (h n) ∙ ap (λ b. q n && b) (all_as p q h ns)
@@ -120,10 +82,6 @@ first_fails b c d e h p q = sym (p ∙ ap (λ x. x && e) (q ∙ h))
 
 pub first_passes : (b c d e f : Bool) → b ≡ true → c ≡ (d && e) → d ≡ b → f ≡ e → f ≡ c
 first_passes b c d e f h p q r = r ∙ sym (p ∙ ap (λ x. x && e) (q ∙ h))
-
-pub runs_as : (o : Option Member) (r : Option Inc) → r ≡ inc_of o → is_some r ≡ is_some o
-runs_as None r h = ap is_some h
-runs_as (Some a) r h = ap is_some h
 
 -- ---- the first reason
 

@@ -25,7 +25,7 @@ pub err_is : {A E : Type 0} (answer : Result A E) (u : E) (P : E → Type 0) →
 err_is (Ok x) u P h p = tt
 err_is (Err e) u P h p = subst P (sym h) p
 
--- nothing is asked of what returns an error
-pub err_done : {A E : Type 0} (answer : Result A E) (u : E) (P : Type 0) → IsErrAnd answer (λ e. e ≡ u) → OnOk answer P
-err_done (Ok x) u P h = absurd h
-err_done (Err e) u P h = tt
+-- no success is returned there
+pub no_ok : {A E : Type 0} (P : Type 0) (r : Result A E) (u : E) → IsErrAnd r (λ e. e ≡ u) → OnOk r P
+no_ok P (Ok x) u h = absurd h
+no_ok P (Err e) u h = tt

@@ -1,5 +1,5 @@
 -- A move that sends nothing.
-use Rattle.std.proofs.Common.{◌≡◌, append-nil, ◌++◌, false, sym, subst, ap, ◌∙◌, []}
+use Rattle.std.proofs.Common.{◌≡◌, append-nil, ◌++◌, false, sym, subst, ◌∙◌, []}
 use Rattle.group_rules.specs.Script.{Play, is_full, plays, said_of}
 use Rattle.group_rules.specs.World.{Move, World, move}
 use Rattle.group_world.specs.Standing.{Along, Holds}

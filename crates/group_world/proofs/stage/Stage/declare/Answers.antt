@@ -1,11 +1,10 @@
 -- It is taken, or stands among the others.
 use Rattle.std.proofs.Common.{◌≡◌, true, false, refl, sym, ◌∙◌}
-use Rattle.group_rules.specs.Script.{Play}
 use Rattle.group_rules.specs.World.{Declares, is_group, is_taken}
-use Rattle.group_world.specs.Standing.{Along, setup_in}
-use Rattle.group_world.proofs.Declared.{declared, fresh, taken_idles, taken_is, untaken_there}
+use Rattle.group_world.specs.Standing.{Goes, setup_in}
+use Rattle.group_world.proofs.Declared.{declared, declares, fresh, taken_idles, taken_is, untaken_there}
 use Rattle.group_world.proofs.Idle.{idle}
-use Rattle.group_world.proofs.Results.{err_done, on_ok}
+use Rattle.group_world.proofs.Results.{no_ok, on_ok}
 use Rattle.group_world.proofs.stage.Stage.declare.Goals as goal
 
 pub returns-then-is_taken : goal.returns-then-is_taken
@@ -27,4 +26,4 @@ pub declare-requires : goal.declare-requires
 declare-requires c = untaken_there c.args.self.now.servers c.args.server.number c.args.server.uuid (is_group (setup_in c.args.self.now.founding) c.args.server.uuid) (sym c.is_taken.ensures ∙ c.if-is_taken.false)
 
 pub returns-in_err-put : goal.returns-in_err-put
-returns-in_err-put c = err_done c.from_residual.result c.in_err-put.field-0.0 c.from_residual.ensures.1
+returns-in_err-put c = no_ok (Goes (declares c.args.server) c.args.self.now (record c.args.self.now { sites = c.put.new.self })) c.from_residual.result c.in_err-put.field-0.0 c.from_residual.ensures.1
