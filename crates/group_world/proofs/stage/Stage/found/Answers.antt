@@ -6,7 +6,7 @@ use Rattle.group_rules.specs.World.{Founds, is_group_taken}
 use Rattle.member_ranges.specs.Ranges.{setup_with}
 use Rattle.group_world.proofs.Founded.{any_setup, founds_with, was_founded, was_taken}
 use Rattle.group_world.proofs.Idle.{idle}
-use Rattle.group_world.proofs.Results.{err_done}
+use Rattle.group_world.proofs.Results.{no_ok}
 use Rattle.group_world.proofs.stage.Stage.found.Goals as goal
 
 pub returns-then-is_some : goal.returns-then-is_some
@@ -22,10 +22,10 @@ returns-then-is_group_taken c y a =
     idle c.plays_are_runs.ensures.idle (Founds t) y c.args.self.now c.args.self.now a tt (was_taken t y.world taken) a.holds.sites refl refl refl refl refl
 
 pub returns-in_err-founders : goal.returns-in_err-founders
-returns-in_err-founders c = err_done c.from_residual.result c.in_err-founders.field-0.0 _ c.from_residual.ensures.1
+returns-in_err-founders c = no_ok _ c.from_residual.result c.in_err-founders.field-0.0 c.from_residual.ensures.1
 
 pub returns-in_err-found_all : goal.returns-in_err-found_all
-returns-in_err-found_all c = err_done c.from_residual-in_err-found_all.result c.in_err-found_all.field-0.0 _ c.from_residual-in_err-found_all.ensures.1
+returns-in_err-found_all c = no_ok _ c.from_residual-in_err-found_all.result c.in_err-found_all.field-0.0 c.from_residual-in_err-found_all.ensures.1
 
 pub returns : goal.returns
 returns c y a =
