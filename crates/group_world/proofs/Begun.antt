@@ -1,5 +1,5 @@
 -- An incarnation that starts: the world afterwards.
-use Rattle.std.proofs.Common.{◌≡◌, inl, inr, ℕ, suc, Bool, true, false, Some, None, Option, List, [], ◌∷◌, ◌++◌, refl, sym, ap, subst, ◌∙◌}
+use Rattle.std.proofs.Common.{◌≡◌, inl, inr, ℕ, suc, true, false, Some, None, Option, [], ◌∷◌, ◌++◌, refl, sym, ap, subst, ◌∙◌}
 use Rattle.std.specs.Prelude.{is_some, map}
 use Rattle.gtid_sets.specs.Canonical.{IsUuid}
 use Rattle.gr_ids.specs.declared.names.Inc.{Inc}

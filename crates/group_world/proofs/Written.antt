@@ -1,11 +1,11 @@
 -- A row that is written offline: the world afterwards.
 use Rattle.std.proofs.Common.{◌≡◌, inl, inr, ℕ, suc, length, Bool, true, false, Some, None, Option, List, [], ◌∷◌, ◌++◌, refl, sym, ap, subst, ◌∙◌}
-use Rattle.std.specs.Prelude.{is_some, map, not}
+use Rattle.std.specs.Prelude.{is_some, not}
 use Rattle.gr_ids.specs.declared.names.Gtid.{Gtid}
 use Rattle.gtid_sets.specs.Canonical.{IsNumber, IsUuid}
 use Rattle.key_items.specs.declared.item.Item.{Item}
 use Rattle.group_rules.specs.declared.said.Said.TheVariants.{Offline as WroteOffline}
-use Rattle.group_rules.specs.Events.{Setup, Stored}
+use Rattle.group_rules.specs.Events.{Setup}
 use Rattle.group_rules.specs.Script.{Play, plays}
 use Rattle.group_rules.specs.World.{Server, World, WritesRow, move, nothing_happens, server_at, write_by, written}
 use Rattle.member_ranges.specs.Ranges.{setup_with}

@@ -1,5 +1,5 @@
 -- The site of the server begins, if it is there.
-use Rattle.std.proofs.Common.{◌≡◌, true, ap, refl, sym, subst, ◌∙◌}
+use Rattle.std.proofs.Common.{◌≡◌, ap, sym, subst, ◌∙◌}
 use Rattle.group_world.specs.Changing.{is_busy}
 use Rattle.group_world.specs.Sites.{AreSites, before}
 use Rattle.member_ranges.specs.Ranges.{setup_with}
@@ -19,4 +19,4 @@ returns c =
     let at : c.place_of-at.result ≡ before c.args.server.number zs = c.place_of-at.ensures ∙ ap (before c.args.server.number) c.deref.ensures.value in
     rw (← c.self.view_is)
     (begins (setup_with c.args.founding.now.limits c.args.founding.now.mode c.args.founding.now.founders.items) c.args.contact c.args.server c.place_of-at.result zs c.in-Some.site.now c.start.new.self c.start.result at
-        c.in-Some.ensures.item.3.0 c.in-Some.ensures.value (if_ok c.start.result c.start.ensures (λ o k s h d. k s h (c.in_ok-me.ensures s h d))))
+    c.in-Some.ensures.item.3.0 c.in-Some.ensures.value (if_ok c.start.result c.start.ensures (λ o k s h d. k s h (c.in_ok-me.ensures s h d))))

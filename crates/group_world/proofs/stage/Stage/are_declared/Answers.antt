@@ -1,5 +1,5 @@
 -- The one is, and the others are.
-use Rattle.std.proofs.Common.{◌≡◌, ap, sym, ◌∙◌}
+use Rattle.std.proofs.Common.{ap, sym, ◌∙◌}
 use Rattle.world_servers.specs.Naming.{is_there}
 use Rattle.group_world.specs.Refusing.{passes}
 use Rattle.group_world.proofs.Refused.{declared_all, first_fails, first_passes}

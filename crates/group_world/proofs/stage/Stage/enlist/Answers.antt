@@ -1,5 +1,5 @@
 -- One more, or one again.
-use Rattle.std.proofs.Common.{◌≡◌, Some, option_copied, ap, sym, ◌∙◌}
+use Rattle.std.proofs.Common.{Some, option_copied, ap, sym, ◌∙◌}
 use Rattle.group_world.proofs.Listed.{lists_again, lists_new, not_there, same_server}
 use Rattle.group_world.proofs.Results.{on_ok}
 use Rattle.group_world.proofs.stage.Stage.enlist.Goals as goal

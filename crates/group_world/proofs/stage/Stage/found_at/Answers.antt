@@ -21,6 +21,6 @@ returns-clause-founded c w before a =
     let kept = c.in_ok-enlist.ensures.beside in
     let member = subst (λ js. IsMember (found (setup_with c.args.founding.now.limits c.args.founding.now.mode js) me) c.in_ok-member.member) c.deref.ensures.value c.in_ok-member.ensures in
     one_founded t me w before c.args.self.now _ c.uuid_fits.ensures a
-      (c.in_ok-enlist.ensures.listed w.servers s a.rising a.servers refl)
-      (subst (AreSites (with_server w.servers s)) (sym (ap (λ x. x.sites) kept)) (c.in_ok-put.ensures w.servers s a.rising a.sites (record { number = refl; starts = refl; stay = (found t me, refl, member, me_stored t me) })))
-      (c.in_ok-push.ensures.items ∙ ap (λ x. x.said.items ++ Marked me.inc (State Online Founded) ∷ []) kept)
+    (c.in_ok-enlist.ensures.listed w.servers s a.rising a.servers refl)
+    (subst (AreSites (with_server w.servers s)) (sym (ap (λ x. x.sites) kept)) (c.in_ok-put.ensures w.servers s a.rising a.sites (record { number = refl; starts = refl; stay = (found t me, refl, member, me_stored t me) })))
+    (c.in_ok-push.ensures.items ∙ ap (λ x. x.said.items ++ Marked me.inc (State Online Founded) ∷ []) kept)

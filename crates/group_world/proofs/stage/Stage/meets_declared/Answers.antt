@@ -1,5 +1,5 @@
 -- What a step would declare is taken, or it would declare nothing.
-use Rattle.std.proofs.Common.{◌≡◌, sym, ap, ◌∙◌}
+use Rattle.std.proofs.Common.{sym, ap, ◌∙◌}
 use Rattle.group_rules.specs.Script.{meets_declared}
 use Rattle.group_world.proofs.Declared.{taken_is}
 use Rattle.group_world.proofs.Refused.{declares_nothing}

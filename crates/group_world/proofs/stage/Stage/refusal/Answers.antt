@@ -1,9 +1,5 @@
 -- The first reason that there is.
-use Rattle.std.proofs.Common.{◌≡◌, true, false, sym, ◌∙◌}
-use Rattle.std.specs.List.{list_all}
-use Rattle.group_rules.specs.Script.{Play, is_in_use, meets_declared, names}
-use Rattle.group_rules.specs.World.{is_declared}
-use Rattle.group_world.specs.Standing.{Along}
+use Rattle.std.proofs.Common.{sym, ◌∙◌}
 use Rattle.group_world.proofs.Refused.{at_declared, at_member, at_none, at_running, at_server, at_wire}
 use Rattle.group_world.proofs.stage.Stage.refusal.Goals as goal
 

@@ -57,7 +57,7 @@ returns-in-Some-2-clause-stands c =
     let who = somebody (member_at y.world c.args.via) c.in-Some.contact (sym (c.running.ensures y.world.servers a.holds.sites) ∙ c.in-Some.is) in
     goes_on c.plays_are_runs.ensures.started c.args.server c.args.via (setup_with f.limits f.mode f.founders.items) who.0 y c.args.self.now c.leave.new.self c.in-Some-2.turn a (a.holds.setup ∙ ap setup_in c.in-Some-founding.is) who.1
     (subst (λ i. BeginsAt c.args.server (setup_with f.limits f.mode f.founders.items) i y.world.servers c.in-Some-2.turn c.leave.new.self.sites) (sym who.2)
-        (subst (BeginsAt c.args.server (setup_with f.limits f.mode f.founders.items) c.in-Some.contact y.world.servers c.in-Some-2.turn) (sym beside.sites) (began c y a)))
+    (subst (BeginsAt c.args.server (setup_with f.limits f.mode f.founders.items) c.in-Some.contact y.world.servers c.in-Some-2.turn) (sym beside.sites) (began c y a)))
     beside.servers beside.founding wire few said beside.block)
 
 pub returns-in-Some-2-clause-full : goal.returns-in-Some-2-clause-full
