@@ -1,8 +1,8 @@
 # usage: apply_readme.py README.md ; takes kept reference and the tour
 import sys
 p=sys.argv[1]; s=open(p).read()
-ref=open('/work/notes/kept/reference.md').read().strip()
-tour='/work/notes/kept/tour/'
+ref=open('kept/reference.md').read().strip()
+tour='kept/tour/'
 def block(name):
     gr=open(tour+name+'.gr').read().rstrip('\n'); out=open(tour+name+'.out').read().rstrip('\n')
     ind=lambda t:'\n'.join('    '+l for l in t.split('\n'))
@@ -47,7 +47,7 @@ transactions, and a split vote of two leaders. The statuses with which the progr
 """
 s=s[:i]+new+s[j:]
 k=s.index("**`script_run`**, the program `grsim`"); l=s.index("**`gr_io`**, sources and sinks.")
-r=open('/work/notes/kept/readme_script_run.md').read()
+r=open('kept/readme_script_run.md').read()
 a=r.index("**`script_run`**, the program"); b=r.index("**`report_text`** (more)")
 s=s[:k]+r[a:b].rstrip()+"\n\n"+s[l:]
 s=s.replace("""These are laws of the definitions. That a program does what the definitions say **is not proved yet**: the code of a member and of the world isn't whole.
