@@ -61,8 +61,10 @@ refused_world x y s z f w h stage fault =
       along = subst (Along (cleared y)) (sym stage) w.along;
     })
 
-pub refused_closes : (x : Step) (y : Play) (f : WorldFault) → Told x y (Some f) → (is_last f ≡ false) × (is_spent f ≡ false)
-refused_closes x y f h = let p = reason x y f h in subst (λ g. (is_last g ≡ false) × (is_spent g ≡ false)) (sym p.2) (each p.0)
+-- it stays open for the next
+pub refused_closes : (o : Option Refusal) (f : WorldFault) → Some f ≡ option_map fault_for o → (is_last f ≡ false) × (is_spent f ≡ false)
+refused_closes None f h = absurd (cc h)
+refused_closes (Some r) f h = let q : f ≡ fault_for r = cc in subst (λ g. (is_last g ≡ false) × (is_spent g ≡ false)) (sym q) (each r)
   where
     each : (r : Refusal) → (is_last (fault_for r) ≡ false) × (is_spent (fault_for r) ≡ false)
     each Declared = (refl, refl)

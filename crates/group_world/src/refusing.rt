@@ -1,7 +1,7 @@
 // Why steps are refused.
-ghost use Rattle.std.specs.Prelude.{◌≡◌, List, option_copied, option_map, is_some};
+ghost use Rattle.std.specs.Prelude.{◌≡◌, List, Option, option_copied, option_map, is_some};
 ghost use Rattle.std.specs.List.{list_all};
-ghost use Rattle.group_rules.specs.Script.{Play, all_run, has_addressee as has_addressee_in, is_in_use, letter_at, letter_refusal, meets_declared, names, refusal, wire_refusal};
+ghost use Rattle.group_rules.specs.Script.{Play, Refusal, all_run, has_addressee as has_addressee_in, is_in_use, letter_at, letter_refusal, meets_declared, names, refusal, wire_refusal};
 ghost use Rattle.group_rules.specs.World.{Server, World, is_declared, is_running, running_of};
 ghost use Rattle.world_servers.specs.Naming.{AreOf, is_there};
 ghost use Rattle.group_world.specs.Refusing.{fault_for, others_of, passes, runner_of as runner, server_of as server_at};
@@ -18,7 +18,8 @@ use world_wire::Letter;
 impl Stage {
     /// Why the step is refused, if it is: the first reason of their order.
     pub(crate) fn refusal(&self, step: &Step) -> Option<WorldFault>
-        ensures { (y : Play) → Along y self.now → result ≡ option_map fault_for (refusal step.now y) }
+        ensures why { (y : Play) → Along y self.now → result ≡ option_map fault_for (refusal step.now y) }
+        ensures kind { (r : Option Refusal) × (result ≡ option_map fault_for r) }
     {
         if self.meets_declared(step) {
             return Some(WorldFault::Declared);
@@ -74,7 +75,8 @@ impl Stage {
 
     // A message that it names wasn't sent, or is lost.
     fn wire_fault(&self, step: &Step) -> Option<WorldFault>
-        ensures { (y : Play) → Along y self.now → result ≡ option_map fault_for (wire_refusal step.now y) }
+        ensures why { (y : Play) → Along y self.now → result ≡ option_map fault_for (wire_refusal step.now y) }
+        ensures kind { (r : Option Refusal) × (result ≡ option_map fault_for r) }
     {
         match step {
             Step::Deliver { k } => letter_fault(*k, self.wire.letter(*k)),
