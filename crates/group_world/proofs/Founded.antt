@@ -17,8 +17,7 @@ use Rattle.group_rules.specs.declared.said.Said.{Said}
 use Rattle.group_rules.specs.declared.said.Said.TheVariants.{Marked}
 use Rattle.group_rules.specs.Events.{Setup}
 use Rattle.group_rules.specs.Life.{stored}
-use Rattle.group_rules.specs.declared.steps.Step.TheVariants.{Found}
-use Rattle.group_rules.specs.Script.{Play, does, founder_by, founders, plays, said_of, with_joiner}
+use Rattle.group_rules.specs.Script.{Play, founder_by, founders, plays, said_of, with_joiner}
 use Rattle.group_rules.specs.Steps.{found}
 use Rattle.group_rules.specs.World.{Founds, Server, World, default_uuid, dids, found_all, found_at, has_uuid, is_default_of_other, is_group_taken, move, nothing_happens, nothing_stored, server_at, with_server}
 use Rattle.group_runs.specs.Runs.{Apart, IsSetup}
@@ -28,7 +27,7 @@ use Rattle.gr_ids.specs.declared.levels.Mode.{Mode}
 use Rattle.play_runs.specs.Runs.{IsRun}
 use Rattle.group_world.specs.Founding.{AreFounded, IsWithin}
 use Rattle.group_world.specs.Sites.{AreSites}
-use Rattle.group_world.specs.Standing.{Along, AreDeclared, Goes, Holds, setup_in}
+use Rattle.group_world.specs.Standing.{Along, AreDeclared, Holds, setup_in}
 use Rattle.world_servers.specs.Naming.{AreOf}
 use Rattle.group_world.specs.declared.founding.Founding.{Founding}
 use Rattle.group_world.specs.declared.stage.Stage.{Stage}
@@ -291,8 +290,3 @@ founds_with law l m js ns f y x s z a fit are same none free all within e =
     let unset : is_some y.world.setup ≡ false = ap is_some a.holds.setup ∙ unfounded x.founding none in
     let is = founds law t ns f y x (record s { founding = Some f }) a fit are same unset free (record { servers = h.servers; sites = h.sites; rising = h.rising; declared = h.declared; said = h.said }) refl within.block within.wire in
     subst (λ k. Along (plays (Founds (setup_with l m k)) y) z) are (subst (Along (plays (Founds t) y)) (sym e) is)
-
--- the block is that of the play
-pub founds_as : (g : List ℕ) (m : Mode) (h e q : ℕ) (ns : List ℕ) (x z : Stage)
-    → Goes (λ y. plays (Founds (setup_with (record { group = g; horizon = h; expel = e; majority = q; block = x.block }) m (founders y.world ns))) y) x z → Goes (does (Found g m h e q ns)) x z
-founds_as g m h e q ns x z k y a = subst (λ b. Along (plays (Founds (setup_with (record { group = g; horizon = h; expel = e; majority = q; block = b }) m (founders y.world ns))) y) z) a.block (k y a)

@@ -10,6 +10,7 @@ mod Founded
 mod Applied
 mod Finding
 mod Stepped
+mod Looks
 mod Moving
 mod Left
 mod Servers
