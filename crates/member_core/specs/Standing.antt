@@ -8,7 +8,6 @@ use Rattle.group_rules.specs.Histories.{arranged}
 use Rattle.group_rules.specs.Life.{stored}
 use Rattle.group_rules.specs.Member.{Member}
 use Rattle.group_rules.specs.Steps.{step, left_by}
-use Rattle.member_truth.specs.Growing.{IsPromised}
 use Rattle.member_truth.specs.Ranged.{IsRanged}
 use Rattle.row_store.specs.Following.{HasPlaces}
 use Rattle.member_messages.specs.Sending.{spelt}
@@ -31,10 +30,6 @@ pub record IsMember (a : Member) (x : Running) : Type 0 where
   pub moment : Stands a.life (cleared a) x.moment
   pub earlier : IsEarlier (stored a.life) x.earlier
   pub places : HasPlaces a.life
-
--- what every run of the group promises to its members holds of the history of this one
-abbrev pub IsKept : Member → Type 0
-IsKept b = IsPromised b.setup b.me.inc b.life
 
 -- ---- events
 

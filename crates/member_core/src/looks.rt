@@ -44,11 +44,11 @@ impl Member {
         member_looks::show_members(alloc, &self.moment)
     }
 
-    /// Its place in the list.
-    pub fn show_slots(&self, _alloc: Global) -> Result<Look, Memory>
-        ensures { IfOk result (λ l. (a : Rules) → IsMember a self.now → l ≡ show_slots a) }
+    /// Its place in the list. Takes no memory.
+    pub fn show_slots(&self) -> Look
+        ensures { (a : Rules) → IsMember a self.now → result ≡ show_slots a }
     {
-        Ok(member_looks::show_slots(&self.moment))
+        member_looks::show_slots(&self.moment)
     }
 
     /// What it has executed. Linear in its runs.
@@ -79,11 +79,11 @@ impl Member {
         member_looks::show_certifier(alloc, &self.moment)
     }
 
-    /// The least slot that it keeps.
-    pub fn show_kept(&self, _alloc: Global) -> Result<Look, Memory>
-        ensures { IfOk result (λ l. (a : Rules) → IsMember a self.now → l ≡ show_kept a) }
+    /// The least slot that it keeps. Takes no memory.
+    pub fn show_kept(&self) -> Look
+        ensures { (a : Rules) → IsMember a self.now → result ≡ show_kept a }
     {
-        Ok(member_looks::show_kept(&self.moment))
+        member_looks::show_kept(&self.moment)
     }
 
     /// Who votes in a slot.

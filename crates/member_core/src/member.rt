@@ -15,9 +15,9 @@ ghost use Rattle.group_rules.specs.World.{stored_by};
 ghost use Rattle.member_messages.specs.Sending.{spelt};
 ghost use Rattle.member_ranges.specs.Ranges.{IsFounding, setup_with};
 ghost use Rattle.kept_server.specs.Keeping.{KeptFor};
-ghost use Rattle.member_moment.specs.Doing.{Does};
+ghost use Rattle.member_moment.specs.Doing.{Does, IsKept};
 ghost use Rattle.member_core.specs.Acting.{step_of};
-ghost use Rattle.member_core.specs.Standing.{HasStarted, IsEvent, IsKept, IsMember, IsStepOf, event_of};
+ghost use Rattle.member_core.specs.Standing.{HasStarted, IsEvent, IsMember, IsStepOf, event_of};
 
 use crate::acting::act;
 use crate::event::{Event, StepLeft};
