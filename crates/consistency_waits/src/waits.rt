@@ -41,6 +41,14 @@ impl Waits {
         }
     }
 
+    /// Whether no begin is held. Takes no memory.
+    pub fn is_empty(&self) -> bool
+        ensures nothing { result ≡ true → self.now ≡ [] }
+        ensures something { self.now ≡ [] → result ≡ true }
+    {
+        self.holds.is_empty()
+    }
+
     /// The begin of a session is held until its conditions hold, for `limit` ticks at most. The session isn't held.
     pub fn hold(
         &mut self,

@@ -51,6 +51,9 @@ impl MemberParts {
         ensures begun { IfOk result (λ rs. (a : AnyMember) → StandsFor a.setup a.me.inc a.life self.old → begin_all a ≡ begins (executed_by a.life) rs a) }
         ensures stands { OnOk result ((a : AnyMember) → StandsFor a.setup a.me.inc a.life self.old → StandsFor a.setup a.me.inc (begin_all a).life self.new) }
     {
+        if self.waits.is_empty() {
+            return Ok(Sequence::from_vec(Vec::new(alloc)));
+        }
         let now = Standing {
             pending: self.backlog.pending(alloc)?,
         };

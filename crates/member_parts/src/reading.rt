@@ -62,7 +62,10 @@ fn own_may_go(parts: &MemberParts, one: &Uncommitted) -> bool
 fn other_may_go(parts: &MemberParts, one: &Uncommitted) -> bool
     ensures { result ≡ (is_clear one.now.place parts.now.backlog && (front_is_done parts.now.remotes.queue one.now.place && (not one.now.after || (not (has parts.now.required one.now.gtid) || is_complete parts.now.acks one.now.gtid)))) }
 {
-    parts.backlog.is_clear(one.place) && first_may_go(parts, one)
+    if !first_may_go(parts, one) {
+        return false;
+    }
+    parts.backlog.is_clear(one.place)
 }
 
 // It is the first of the queue, and done; an AFTER one that requires this member is complete.
