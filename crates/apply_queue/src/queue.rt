@@ -1,5 +1,5 @@
 // The queue.
-ghost use Rattle.std.specs.Prelude.{◌≡◌, ◌++◌, ◌∷◌, [], None, Some, true, map, IfErr, IfNone, IfOk, IfSome, MatchOption, OnErr, OnOk};
+ghost use Rattle.std.specs.Prelude.{◌≡◌, ◌++◌, ◌∷◌, [], None, Some, true, false, ℕ, map, IfErr, IfNone, IfOk, IfSome, MatchOption, OnErr, OnOk};
 ghost use Rattle.gr_ids.specs.declared.names.Gtid.{Gtid as AnyGtid};
 ghost use Rattle.gr_ids.specs.declared.memory.Memory.{Memory};
 ghost use Rattle.apply_queue.specs.Queues.{Done as IsDone, Mark, Waiting as IsWaiting, at_place, first_waiting, front_is_done, handed_out, is_above, is_below, next_commit, refusal, shown, with_done};
@@ -135,6 +135,16 @@ impl Queue {
         match self.entries.front() {
             Some(front) => front.is_done() && front.place() == place,
             None => false,
+        }
+    }
+
+    /// Whether the least queued place isn't done, or nothing is queued: then no place may be committed. Takes constant time, and no memory.
+    pub fn front_waits(&self) -> bool
+        ensures { result ≡ true → (p : ℕ) → front_is_done self.now p ≡ false }
+    {
+        match self.entries.front() {
+            Some(front) => !front.is_done(),
+            None => true,
         }
     }
 
