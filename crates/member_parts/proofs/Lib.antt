@@ -13,3 +13,4 @@ pub mod Told
 pub mod Conditions
 pub mod Turns
 pub mod Asked
+pub mod Resting

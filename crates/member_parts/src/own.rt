@@ -1,5 +1,5 @@
 // A member's own certified transactions.
-ghost use Rattle.std.specs.Prelude.{◌≡◌, ◌++◌, ◌∷◌, [], IfOk, MatchOption, None, Some, OnErr, OnOk, not};
+ghost use Rattle.std.specs.Prelude.{◌≡◌, ◌++◌, ◌∷◌, [], IfOk, MatchOption, None, Some, OnErr, OnOk, not, true};
 ghost use Rattle.std.specs.List.{find, prefix_len};
 ghost use Rattle.gr_ids.specs.declared.memory.Memory.{Memory};
 ghost use Rattle.gr_ids.specs.declared.names.Gtid.{Gtid as AnyGtid};
@@ -49,6 +49,13 @@ impl OwnCertified {
         OwnCertified {
             waiting: Vec::new(alloc),
         }
+    }
+
+    /// Whether none waits. Takes constant time, and no memory.
+    pub(crate) fn is_empty(&self) -> bool
+        ensures { result ≡ true → self.now ≡ [] }
+    {
+        self.waiting.is_empty()
     }
 
     /// One more waits. Takes constant time, seen over many.

@@ -1,10 +1,14 @@
 // What the parts tell, as the rules of the group read it from the history.
-ghost use Rattle.std.specs.Prelude.{◌≡◌, ◌&&◌, ◌||◌, IfOk, not, nat_lt};
+ghost use Rattle.std.specs.Prelude.{◌≡◌, ◌&&◌, ◌||◌, IfOk, false, not, nat_lt, true};
 ghost use Rattle.gr_ids.specs.Names.{inc_eq};
+ghost use Rattle.gr_ids.specs.declared.names.Inc.{Inc as Member};
 ghost use Rattle.gr_ids.specs.declared.memory.Memory.{Memory};
 ghost use Rattle.gtid_sets.specs.Sets.{has};
 ghost use Rattle.group_rules.specs.Commit.{is_prepared as is_prepared_by, may_commit as may_commit_by, owes_prepared as owes_prepared_by};
 ghost use Rattle.group_rules.specs.Events.{Cert, Life, Setup};
+ghost use Rattle.group_rules.specs.Life.{is_error, state};
+ghost use Rattle.group_rules.specs.Queue.{pending};
+ghost use Rattle.node_rules.specs.Lists.{In};
 ghost use Rattle.apply_queue.specs.Queues.{front_is_done};
 ghost use Rattle.member_backlog.specs.Waiting.{is_clear};
 ghost use Rattle.prepare_acks.specs.Awaited.{is_complete};
@@ -27,6 +31,30 @@ impl MemberParts {
             return own_may_go(self, one);
         }
         other_may_go(self, one)
+    }
+
+    /// Whether none of those that wait may be committed, told without a walk: none is an own one, and the first of the queue isn't done. False
+    /// says nothing. Takes constant time, and no memory.
+    pub fn commits_none(&self) -> bool
+        ensures { result ≡ true → (s : Setup) (me : Member) (l : Life) → is_error (state l) ≡ false → StandsFor s me l self.now
+            → (c : Cert) → In c (pending l) → may_commit_by s l me c ≡ false }
+    {
+        if !self.own.is_empty() {
+            return false;
+        }
+        self.queue().front_waits()
+    }
+
+    /// Whether no Prepared entry is owed, told without a walk: the first of the queue isn't done, or each transaction that requires this member has
+    /// its entry sent. False says nothing. Linear in the runs of the two sets; takes no memory.
+    pub fn prepares_none(&self) -> bool
+        ensures { result ≡ true → (s : Setup) (me : Member) (l : Life) → is_error (state l) ≡ false → StandsFor s me l self.now
+            → (c : Cert) → In c (pending l) → owes_prepared_by s l me c ≡ false }
+    {
+        if self.queue().front_waits() {
+            return true;
+        }
+        self.required.is_subset(&self.sent)
     }
 
     /// Whether a transaction that waits is prepared here. Linear in the queue.

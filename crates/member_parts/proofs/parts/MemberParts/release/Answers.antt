@@ -11,7 +11,7 @@ returns-then-is_empty-clause-begun c =
     let x : MemberParts = c.args.self.now in
     let none : x.waits ≡ [] = c.is_empty.ensures.nothing c.if-is_empty.true in
     λ a f. released_are a x (pending_of x.backlog) c.from_vec.result refl
-        (c.from_vec.ensures ∙ (c.new.ensures.items ∙ sym (ap (λ hs. map released_as (filter (is_due (pending_of x.backlog)) hs)) none))) f
+    (c.from_vec.ensures ∙ (c.new.ensures.items ∙ sym (ap (λ hs. map released_as (filter (is_due (pending_of x.backlog)) hs)) none))) f
 
 pub returns-then-is_empty-clause-stands : goal.returns-then-is_empty-clause-stands
 returns-then-is_empty-clause-stands c =
