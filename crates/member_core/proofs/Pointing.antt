@@ -1,15 +1,15 @@
 -- What happens at a point, act by act.
-use Rattle.std.proofs.Common.{◌≡◌, ◌+◌, ◌≤◌, ◌<◌, ℕ, Bool, true, false, ◌&&◌, List, [], ◌∷◌, ◌++◌, map, drop, length, get_or, suc, add-one, refl, sym, ap, ◌∙◌, subst, append_assoc}
+use Rattle.std.proofs.Common.{◌≡◌, inl, inr, ◌+◌, ◌≤◌, ◌<◌, ℕ, Bool, true, false, ◌&&◌, List, [], ◌∷◌, ◌++◌, map, drop, length, get_or, suc, add-one, refl, sym, ap, ◌∙◌, subst, append_assoc}
 use Rattle.std.proofs.lemmas.List.{append-nil, drop_all}
 use Rattle.std.proofs.Math.Seq.{drop-cons}
 use Rattle.name_forms.specs.Gtids.{IsGtid}
 use Rattle.gtid_sets.specs.Sets.{Gtids}
-use Rattle.group_rules.specs.Commit.{owes_prepared}
-use Rattle.group_rules.specs.Events.{Cert, Life}
+use Rattle.group_rules.specs.Commit.{may_commit, owes_prepared}
+use Rattle.group_rules.specs.Events.{Cert, Committed, Life}
 use Rattle.group_rules.specs.Life.{executed, is_error, state}
-use Rattle.group_rules.specs.Member.{Member, for_each, own_body}
+use Rattle.group_rules.specs.Member.{Member, for_each, own_body, push}
 use Rattle.txn_forms.specs.declared.body.Body.TheVariants.{Online as Arrives, Prepared}
-use Rattle.group_rules.specs.Points.{arrive, begin_all, commit_all, commit_one, point, prepare_all, prepare_one, unless_pending}
+use Rattle.group_rules.specs.Points.{answer_own, arrive, begin_all, commit_all, commit_one, point, prepare_all, prepare_one, unless_pending}
 use Rattle.group_rules.specs.Queue.{pending}
 use Rattle.node_rules.specs.Lists.{In}
 use Rattle.member_truth.specs.Growing.{Grows}
@@ -159,6 +159,21 @@ next_prepared us i u x y z h e d o = one_prepared u (drop (i + 1) us) x y z (sub
 
 pub ends_at : (f : Cert → Member → Member) (us : List Uncommitted) (i : ℕ) (x y : Moment) → length us ≤ i → AreDone f (drop i us) x y → DoesIf IsWell (λ a. for_each f (pending a.life) a) x y
 ends_at f us i x y h d = all_done f x y (subst (λ vs. AreDone f vs x y) (drop_all i us h) d)
+
+-- ---- where none passes its test
+
+idle : (f : Cert → Member → Member) (cs : List Cert) (a : Member) → ((c : Cert) → In c cs → f c a ≡ a) → for_each f cs a ≡ a
+idle f [] a h = refl
+idle f (c ∷ cs) a h = ap (for_each f cs) (h c (inl refl)) ∙ idle f cs a (λ d m. h d (inr m))
+
+none_moves : (f : Cert → Member → Member) (x : Moment) → ((base : Life) (a : Member) → Stands base a x → IsWell a → (c : Cert) → In c (pending a.life) → f c a ≡ a) → DoesIf IsWell (λ a. for_each f (pending a.life) a) x x
+none_moves f x h base a w k st = subst (λ b. Stands base b x) (sym (idle f (pending a.life) a (h base a st w))) st
+
+pub commits_none : (x : Moment) → ((base : Life) (a : Member) → Stands base a x → IsWell a → (c : Cert) → In c (pending a.life) → may_commit a.setup a.life a.me.inc c ≡ false) → DoesIf IsWell commit_all x x
+commits_none x h = none_moves commit_one x (λ base a st w c m. ap (λ b. elim b [ true ↦ answer_own c (push (Committed c.gtid) a) | false ↦ a ]) (h base a st w c m))
+
+pub prepares_none : (x : Moment) → ((base : Life) (a : Member) → Stands base a x → IsWell a → (c : Cert) → In c (pending a.life) → owes_prepared a.setup a.life a.me.inc c ≡ false) → DoesIf IsWell prepare_all x x
+prepares_none x h = none_moves prepare_one x (λ base a st w c m. ap (λ b. elim b [ true ↦ own_body (Prepared c.gtid) a | false ↦ a ]) (h base a st w c m))
 
 -- ---- all of it
 

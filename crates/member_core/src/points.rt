@@ -11,7 +11,8 @@ use member_moment::Moment;
 use message_checks::is_gtid;
 use txn_forms::Body;
 
-/// Commits, Prepared entries, begins, and the own Online entry. Quadratic in what waits to be committed.
+/// Commits, Prepared entries, begins, and the own Online entry. Quadratic in what waits to be committed; where no own one waits and the first of
+/// the queue isn't done, what waits isn't walked.
 pub(crate) fn point(moment: &mut Moment) -> Result<(), Memory>
     ensures { OnOk result (Does points moment.old moment.new) }
 {
@@ -34,6 +35,9 @@ fn point_well(moment: &mut Moment) -> Result<(), Memory>
 fn commit_all(moment: &mut Moment) -> Result<(), Memory>
     ensures { OnOk result (DoesIf IsWell commits_all moment.old moment.new) }
 {
+    if moment.commits_none() {
+        return Ok(());
+    }
     let waiting = moment.waiting()?;
     for one in &waiting {
         moment.commit_one(one)?;
@@ -45,6 +49,9 @@ fn commit_all(moment: &mut Moment) -> Result<(), Memory>
 fn prepare_all(moment: &mut Moment) -> Result<(), Memory>
     ensures { OnOk result (DoesIf IsWell prepares_all moment.old moment.new) }
 {
+    if moment.prepares_none() {
+        return Ok(());
+    }
     let waiting = moment.waiting()?;
     for one in &waiting {
         prepare_one(moment, one)?;

@@ -1,7 +1,7 @@
 // What a member tells of itself in a step.
-ghost use Rattle.std.specs.Prelude.{◌≡◌, ◌&&◌, ◌||◌, IfOk, is_some, map};
+ghost use Rattle.std.specs.Prelude.{◌≡◌, ◌&&◌, ◌||◌, IfOk, false, is_some, map, true};
 ghost use Rattle.gr_ids.specs.declared.memory.Memory.{Memory};
-ghost use Rattle.group_rules.specs.Commit.{owes_prepared as owes};
+ghost use Rattle.group_rules.specs.Commit.{may_commit as may_commit_by, owes_prepared as owes};
 ghost use Rattle.group_rules.specs.Events.{Cert, Life};
 ghost use Rattle.group_rules.specs.Life.{executed as executed_by, is_error, is_offline, is_recovering, is_up, state as state_of};
 ghost use Rattle.group_rules.specs.Member.{Member};
@@ -9,6 +9,7 @@ ghost use Rattle.group_rules.specs.Queue.{pending};
 ghost use Rattle.group_rules.specs.Recovery.{pending_ask};
 ghost use Rattle.group_rules.specs.Sessions.{is_holding, phase};
 ghost use Rattle.group_rules.specs.Taking.{takes_slots};
+ghost use Rattle.node_rules.specs.Lists.{In};
 ghost use Rattle.member_backlog.specs.Standing.{uncommitted_of};
 ghost use Rattle.member_parts.specs.Committing.{IsPending};
 ghost use Rattle.member_moment.specs.Standing.{Stands};
@@ -82,6 +83,23 @@ impl Moment {
             → b ≡ owes a.setup a.life a.me.inc c) }
     {
         self.parts.owes_prepared(self.alloc, self.me.inc, one)
+    }
+
+    /// Whether nothing that waits may be committed, told without a walk; false says nothing. Takes constant time, and no memory.
+    pub fn commits_none(&self) -> bool
+        ensures { result ≡ true → (base : Life) (a : Member) → Stands base a self.now → is_error (state_of a.life) ≡ false
+            → (c : Cert) → In c (pending a.life) → may_commit_by a.setup a.life a.me.inc c ≡ false }
+    {
+        self.parts.commits_none()
+    }
+
+    /// Whether it owes no Prepared entry, told without a walk; false says nothing. Linear in the runs of those that require it and of those that
+    /// it sent; takes no memory.
+    pub fn prepares_none(&self) -> bool
+        ensures { result ≡ true → (base : Life) (a : Member) → Stands base a self.now → is_error (state_of a.life) ≡ false
+            → (c : Cert) → In c (pending a.life) → owes a.setup a.life a.me.inc c ≡ false }
+    {
+        self.parts.prepares_none()
     }
 
     /// Whether it is to make its Online entry: it is RECOVERING, has taken up a Give, made none, and nothing waits to be committed.
