@@ -11,8 +11,8 @@ use member_moment::Moment;
 use message_checks::is_gtid;
 use txn_forms::Body;
 
-/// Commits, Prepared entries, begins, and the own Online entry. Quadratic in what waits to be committed; where no own one waits and the first of
-/// the queue isn't done, what waits isn't walked.
+/// Commits, Prepared entries, begins, and the own Online entry. Quadratic in what waits to be committed; commits and Prepared entries walk none of
+/// it where no own one waits and the first of the queue isn't done.
 pub(crate) fn point(moment: &mut Moment) -> Result<(), Memory>
     ensures { OnOk result (Does points moment.old moment.new) }
 {
