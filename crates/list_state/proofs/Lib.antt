@@ -3,3 +3,4 @@ pub mod Bodies
 pub mod Bounds
 pub mod Followed
 pub mod Joined
+pub mod Quiet

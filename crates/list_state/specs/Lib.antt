@@ -2,3 +2,4 @@ pub mod Listing
 pub mod Holding
 pub mod Joining
 pub mod Following
+pub mod Settling

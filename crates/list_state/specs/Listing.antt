@@ -1,9 +1,11 @@
 -- What the ordered list has made at a member that takes it, and what one entry more makes of it.
 -- (MySQL 8.0 Reference Manual, Group Replication: the members of a group apply the same changes in the same order.)
-use Rattle.std.specs.Prelude.{ℕ, suc, ◌+◌, ◌≤◌, Bool, Option, Some, List}
+use Rattle.std.specs.Prelude.{◌≡◌, ℕ, suc, ◌+◌, ◌≤◌, Bool, true, Option, Some, List}
 use Rattle.gr_ids.specs.declared.limits.Limits.{Limits}
 use Rattle.gr_ids.specs.declared.names.OpenParts.{OpenParts}
+use Rattle.gtid_sets.specs.Sets.{Gtids}
 use Rattle.gtid_sets.specs.declared.told.ToldSet.{ToldSet}
+use Rattle.key_items.specs.declared.item.KeptItem.{KeptItem}
 use Rattle.slot_values.specs.declared.value.Value.{Value}
 use Rattle.txn_forms.specs.declared.body.Body.{Body}
 use Rattle.txn_forms.specs.declared.body.Body.TheVariants.{Txn as Writes, Part as PartOf}
@@ -15,6 +17,7 @@ use Rattle.group_rules.specs.Life.{view_after}
 use Rattle.group_rules.specs.Told.{stable_of, tells, told_after}
 use Rattle.group_rules.specs.Certifier.{certified_by}
 use Rattle.group_rules.specs.Parts.{held, is_void_part, open_after}
+use Rattle.list_state.specs.Settling.{AreKept}
 use Rattle.certifier.specs.Certifying.{Certifying, limits_of, verdict_on, without_stable}
 
 -- the place of the last entry taken, and what the entries up to it have made
@@ -26,12 +29,14 @@ pub record Listed : Type 0 where
   pub certifier : Certifying
   pub parts : List OpenParts
 
--- The size of a block is 1 to 1,000,000. Each place adds one to the number of the view at most, and draws one block at most.
-pub record IsSound (block place number blocks : ℕ) : Type 0 where
+-- The size of a block is 1 to 1,000,000. Each place adds one to the number of the view at most, and draws one block at most. No item
+-- that is kept has a stable writer, where that is known.
+pub record IsSound (block place number blocks : ℕ) (settled : Bool) (stable : Gtids) (items : List KeptItem) : Type 0 where
   pub least : 1 ≤ block
   pub most : block ≤ 1000000
   pub numbered : number ≤ place + 1
   pub drawn : blocks ≤ place
+  pub kept : settled ≡ true → AreKept stable items
 
 -- ---- the entry that a value becomes at the next place
 

@@ -25,6 +25,7 @@ impl ListState {
         ensures err { OnErr result (self.new ≡ self.old) }
     {
         let members = seats_told(alloc, welcome.members.as_slice())?;
+        self.settled = false;
         self.taken = welcome.place.0;
         self.view = View::resume(ViewAt {
             number: welcome.number,
@@ -52,6 +53,7 @@ impl ListState {
             at.items,
         )?;
         let told = Told::restore(alloc, at.told)?;
+        self.settled = false;
         self.certifier = certifier;
         self.told = told;
         self.parts = Parts::resume(at.parts);

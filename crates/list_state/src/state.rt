@@ -22,16 +22,20 @@ pub struct ListState {
     pub(crate) told: Told,
     pub(crate) certifier: Certifier,
     pub(crate) parts: Parts,
+    // whether it is known that the certifier keeps nothing stable
+    pub(crate) settled: bool,
 }
 
 impl Model for ListState {
+    ghost use Rattle.group_rules.specs.Told.{stable_of};
+    ghost use Rattle.group_rules.specs.View.{online_incs};
     ghost use Rattle.list_state.specs.Listing.{IsSound, Listed};
 
     ghost Value = { Listed };
 
     ghost view = { λ s. record { limits = s.limits; taken = s.taken; view = s.view; told = s.told; certifier = s.certifier; parts = s.parts } };
 
-    ghost invariant = { λ s. IsSound s.limits.block s.taken s.view.number s.certifier.certified.blocks };
+    ghost invariant = { λ s. IsSound s.limits.block s.taken s.view.number s.certifier.certified.blocks s.settled (stable_of s.told (online_incs s.view)) s.certifier.certified.items };
 }
 
 impl ListState {
@@ -53,6 +57,7 @@ impl ListState {
             told: Told::new(alloc),
             certifier: Certifier::new(alloc, limits.group, limits.block),
             parts: Parts::new(alloc),
+            settled: false,
         })
     }
 
@@ -76,6 +81,7 @@ impl ListState {
             told: Told::new(alloc),
             certifier: Certifier::new(alloc, limits.group, limits.block),
             parts: Parts::new(alloc),
+            settled: false,
         }
     }
 

@@ -1,5 +1,5 @@
 // One entry more.
-ghost use Rattle.std.specs.Prelude.{◌≡◌, ◌<◌, ◌^◌, ℕ, IfOk, OnErr, OnOk};
+ghost use Rattle.std.specs.Prelude.{◌≡◌, ◌<◌, ◌^◌, ◌&&◌, ℕ, IfOk, List, OnErr, OnOk, true};
 ghost use Rattle.gr_ids.specs.declared.memory.Memory.{Memory};
 ghost use Rattle.name_forms.specs.Incs.{IsInc};
 ghost use Rattle.group_rules.specs.View.{online_incs, void_if};
@@ -7,13 +7,16 @@ ghost use Rattle.group_rules.specs.Told.{stable_of, with_told};
 ghost use Rattle.certifier.specs.Certifying.{HasNumber as IsNumbered, effect_of, without_stable};
 ghost use Rattle.list_state.specs.Holding.{HasNumber, IsEntered, certified_held, effect_held, told_held};
 ghost use Rattle.list_state.specs.Listing.{entry_next, open_of, with_entry};
+ghost use Rattle.list_state.specs.Settling.{first_online, is_new_to, is_quiet};
+ghost use Rattle.list_state.specs.declared.held.Held.TheVariants.{Txn as HoldsTxn};
+ghost use Rattle.txn_forms.specs.declared.body.Txn.{Txn as AnyTxn};
 
 use crate::entered::Entered;
 use crate::held::Held;
 use crate::holding::hold;
 use crate::state::{ListState, online_members};
 use certifier::{Certifier, Verdict};
-use gr_ids::{Inc, Memory, Pos};
+use gr_ids::{Gtid, Inc, MemberState, Memory, Pos};
 use group_rules::Effect;
 use gtid_sets::GtidSet;
 use slot_values::Value;
@@ -25,7 +28,8 @@ use view_changes::View;
 impl ListState {
     /// Takes the value of the next place; whether an Add or a Remove has effect is known from the kept list. Places end at 2^42. After
     /// want of memory some of it may be done: the member stops. Linear in the members and in the value's bytes, besides what
-    /// certification and forgetting take.
+    /// certification takes, and forgetting: linear in the runs that the ONLINE members told, and left out where a transaction or a part
+    /// brings nothing stable.
     pub fn take(
         &mut self,
         alloc: Global,
@@ -38,6 +42,8 @@ impl ListState {
         ensures number { IfOk result (λ x. HasNumber x.effect) }
         ensures made { OnOk result ((t : ℕ) → self.new ≡ with_entry (entry_next self.old t has_effect value.now) self.old) }
     {
+        let was_settled = self.settled;
+        self.settled = false;
         self.taken += 1;
         let place = Pos(self.taken);
         let origin = value.id.origin;
@@ -47,7 +53,15 @@ impl ListState {
             .take(alloc, place, value, held.news(), has_effect)?;
         let effect = certify_held(&mut self.certifier, alloc, place, origin, &held, seen)?;
         note_told(&mut self.told, alloc, origin, &held)?;
-        forget_stable(&mut self.certifier, alloc, &self.told, &self.view)?;
+        let is_settled = still_settled(was_settled, &self.told, &self.view, &held, effect);
+        settle(
+            &mut self.certifier,
+            alloc,
+            &self.told,
+            &self.view,
+            is_settled,
+        )?;
+        self.settled = true;
         Ok(Entered {
             place,
             effect,
@@ -114,7 +128,73 @@ fn note_set(told: &mut Told, alloc: Global, origin: Inc, set: &GtidSet) -> Resul
     told.told(origin, set.try_copy(alloc)?)
 }
 
-// What the stable set has is certified against no more.
+// Whether nothing is left to forget after an entry, by whether nothing was before it. Linear in the members.
+fn still_settled(was: bool, told: &Told, view: &View, held: &Held, effect: Effect) -> bool
+    ensures { result ≡ (was && is_quiet told.now (first_online view.now) held.now effect) }
+{
+    if was {
+        return is_quiet(told, view, held, effect);
+    }
+    false
+}
+
+fn is_quiet(told: &Told, view: &View, held: &Held, effect: Effect) -> bool
+    ensures { result ≡ is_quiet told.now (first_online view.now) held.now effect }
+{
+    match held {
+        Held::Txn(..) => brings_nothing(told, view, effect),
+        Held::Part(_) => true,
+        _ => false,
+    }
+}
+
+// Whether a transaction of this effect brings the certifier nothing that is stable.
+fn brings_nothing(told: &Told, view: &View, effect: Effect) -> bool
+    ensures { (t : AnyTxn) (b : List ℕ) → result ≡ is_quiet told.now (first_online view.now) (HoldsTxn t b) effect }
+{
+    match effect {
+        Effect::Positive(gtid) => is_new_to(told, first_online(view), gtid),
+        _ => true,
+    }
+}
+
+fn is_new_to(told: &Told, member: Option<Inc>, gtid: Gtid) -> bool
+    ensures { result ≡ is_new_to told.now member gtid }
+{
+    match member {
+        Some(inc) => !told.has(inc, gtid),
+        None => true,
+    }
+}
+
+fn first_online(view: &View) -> Option<Inc>
+    ensures { result ≡ first_online view.now }
+{
+    view.seats()
+        .iter()
+        .find(|seat| seat.state == MemberState::Online)
+        .map(|seat| seat.joiner.inc)
+}
+
+// The stable set is made only where something may be left to forget.
+fn settle(
+    certifier: &mut Certifier,
+    alloc: Global,
+    told: &Told,
+    view: &View,
+    is_settled: bool,
+) -> Result<(), Memory>
+    requires { is_settled ≡ true → without_stable (stable_of told.now (online_incs view.now)) certifier.old ≡ certifier.old }
+    ensures ok { OnOk result (certifier.new ≡ without_stable (stable_of told.now (online_incs view.now)) certifier.old) }
+    ensures err { OnErr result (certifier.new ≡ certifier.old) }
+{
+    if is_settled {
+        return Ok(());
+    }
+    forget_stable(certifier, alloc, told, view)
+}
+
+// What the stable set has is certified against no more. Linear in the runs that the ONLINE members told.
 fn forget_stable(
     certifier: &mut Certifier,
     alloc: Global,

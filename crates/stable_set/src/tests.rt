@@ -1,5 +1,5 @@
 use crate::Told;
-use gr_ids::{Inc, Sequence};
+use gr_ids::{Gtid, Inc, Sequence};
 use gtid_sets::{GtidSet, ToldSet};
 use std::alloc::Global;
 use std::test::Fail;
@@ -98,5 +98,9 @@ fn sets_given_are_taken_up(rt: HostRuntime) -> Result<(), Fail> {
     let told = Told::restore(alloc, Sequence::from_vec(vec![in alloc; one, two]?))?;
     let stable = told.stable(alloc, &[first_start(1), first_start(2)])?;
     assert_eq!(rt; stable.write_text(alloc)?.as_slice(), TWO_AND_THREE);
+    let source = [0xaa; 16];
+    assert!(rt; told.has(first_start(1), Gtid { source, number: 3 }));
+    assert!(rt; !told.has(first_start(1), Gtid { source, number: 4 }));
+    assert!(rt; !told.has(first_start(3), Gtid { source, number: 3 }));
     Ok(())
 }

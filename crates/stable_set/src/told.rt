@@ -1,10 +1,11 @@
 // The last set that each incarnation told.
 ghost use Rattle.std.specs.Prelude.{◌≡◌, [], ◌∷◌, ◌++◌, fold, IfOk, map, OnErr, OnOk};
 ghost use Rattle.gr_ids.specs.declared.memory.Memory.{Memory};
+ghost use Rattle.gtid_sets.specs.Sets.{has};
 ghost use Rattle.group_rules.specs.Told.{set_or_empty, sets_of, stable_of, told_of, with_told};
 ghost use Rattle.stable_set.specs.Entries.{ToldAscend, told_in};
 
-use gr_ids::{Inc, Memory, Sequence};
+use gr_ids::{Gtid, Inc, Memory, Sequence};
 use gtid_sets::{GtidSet, ToldSet};
 use std::alloc::Global;
 use std::collections::BTreeMap;
@@ -53,6 +54,17 @@ impl Told {
     {
         self.sets.insert(inc, set)?;
         Ok(())
+    }
+
+    /// Whether the last set that the incarnation told has the GTID; it hasn't where none was told. Logarithmic in the incarnations and in
+    /// the runs of that set; takes no memory.
+    pub fn has(&self, inc: Inc, gtid: Gtid) -> bool
+        ensures { result ≡ has (set_or_empty (told_of self.now inc)) gtid }
+    {
+        match self.sets.get(&inc) {
+            Some(set) => set.contains(gtid),
+            None => false,
+        }
     }
 
     /// The stable set: what the last told sets of the ONLINE members have in common, one that told none counting as empty. It is empty
