@@ -1,12 +1,19 @@
 -- The sites after a step of a member.
-use Rattle.std.proofs.Common.{◌≡◌, ℕ, ◌<◌, Option, Some, None, List, get_or, length, slice_get, sym, ap, subst, ◌∙◌}
+use Rattle.std.proofs.Common.{◌≡◌, ℕ, ◌<◌, Option, Some, None, List, get_or, length, slice_get, refl, sym, ap, subst, ◌∙◌}
 use Rattle.std.specs.Prelude.{slice_set, Result, Ok, Err, IfOk}
 use Rattle.std.proofs.lemmas.Option.{slice_get-get_or}
 use Rattle.gr_ids.specs.declared.memory.Memory.{Memory}
 use Rattle.group_rules.specs.Events.{Event}
+use Rattle.group_rules.specs.Life.{stored}
+use Rattle.group_rules.specs.Member.{Member}
+use Rattle.group_rules.specs.Steps.{step}
 use Rattle.group_rules.specs.World.{Server, running_of}
-use Rattle.group_world.specs.Sites.{AreSites, HasStepped, HaveStepped, IsSite, Rises, before}
+use Rattle.member_core.specs.Standing.{IsMember}
+use Rattle.member_core.specs.declared.member.Member.{Member as Runner}
+use Rattle.member_moment.specs.Doing.{IsKept}
+use Rattle.group_world.specs.Sites.{AreSites, HasStepped, HaveStepped, IsSite, IsStay, IsTurn, Rises, before}
 use Rattle.group_world.specs.declared.site.Site.{Site}
+use Rattle.group_world.specs.declared.site.Stay.TheVariants.{Running}
 use Rattle.group_world.specs.declared.site.Turn.{Turn}
 use Rattle.group_world.proofs.Finding.{at_in, found, keep, put}
 
@@ -44,3 +51,13 @@ pub stepped : (n at : ℕ) (e : Event) (zs : List Site) (z y : Site) (r : Result
     → at ≡ before n zs → at < length zs → z ≡ get_or zs at z → IfOk r (SiteSteps e z y) → IfOk r (AllStep n e zs (slice_set zs at y))
 stepped n at e zs z y (Ok o) q h g k = λ ss r a. subst (λ i. HaveStepped n e ss o (slice_set zs i y)) (sym q) (one_of n e ss zs z y o (there n at zs z q h g) k r a)
 stepped n at e zs z y (Err f) q h g k = tt
+
+-- ---- one site
+
+-- a server whose member has taken the event; what it had before stays
+pub site_steps : (e : Event) (s : Server) (z : Site) (m n : Runner) (t : Turn) → ((a : Member) → stored (step e a).life ≡ stored a.life) → z.stay ≡ Running m
+    → ((a : Member) → IsKept (step e a) → IsMember a m → IsTurn e a t × IsMember (step e a) n) → IsSite s z → HasStepped e s (Some t) (record z { stay = Running n })
+site_steps e s z m n t plain is does h = go (subst (IsStay s) is h.stay)
+  where
+    go : IsStay s (Running m) → HasStepped e s (Some t) (record z { stay = Running n })
+    go k = (k.0, k.1, λ p. let q = does k.0 p k.2 in (q.0, record { number = h.number; starts = h.starts; stay = (step e k.0, refl, q.1, plain k.0 ∙ k.3) }))

@@ -8,5 +8,5 @@ use Rattle.group_world.proofs.stage.Stage.show_kept.Goals as goal
 
 pub returns-in-Some : goal.returns-in-Some
 returns-in-Some c =
-    seen show_kept c.args.server c.args.self.now c.tell.new.self c.in-Some.member.now c.show_kept.result c.tell.result
-    (λ ss a. subst (HasMember (running_of (at_number c.args.server ss))) (ap option_copied c.in-Some.is) (c.member.ensures ss a)) c.show_kept.ensures c.tell.ensures
+    seen show_kept c.args.server c.args.self.now c.tell.new.self c.in-Some.member.now c.show_kept-look.result c.tell.result
+    (λ ss a. subst (HasMember (running_of (at_number c.args.server ss))) (ap option_copied c.in-Some.is) (c.member.ensures ss a)) c.show_kept-look.ensures c.tell.ensures

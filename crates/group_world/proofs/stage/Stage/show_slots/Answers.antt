@@ -8,5 +8,5 @@ use Rattle.group_world.proofs.stage.Stage.show_slots.Goals as goal
 
 pub returns-in-Some : goal.returns-in-Some
 returns-in-Some c =
-    seen show_slots c.args.server c.args.self.now c.tell.new.self c.in-Some.member.now c.show_slots.result c.tell.result
-    (λ ss a. subst (HasMember (running_of (at_number c.args.server ss))) (ap option_copied c.in-Some.is) (c.member.ensures ss a)) c.show_slots.ensures c.tell.ensures
+    seen show_slots c.args.server c.args.self.now c.tell.new.self c.in-Some.member.now c.show_slots-look.result c.tell.result
+    (λ ss a. subst (HasMember (running_of (at_number c.args.server ss))) (ap option_copied c.in-Some.is) (c.member.ensures ss a)) c.show_slots-look.ensures c.tell.ensures
