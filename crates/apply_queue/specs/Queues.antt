@@ -1,6 +1,6 @@
 -- The queue of a member: certified transactions of other origins, by ascending place. Each waits, is handed out to a worker, or is done.
 -- (MySQL 8.0 Reference Manual, replica_parallel_workers and replica_preserve_commit_order: workers apply in parallel, and commit in order.)
-use Rattle.std.specs.Prelude.{ℕ, Bool, true, false, ◌&&◌, Option, Some, None, List, [], ◌∷◌, nat_lt, ◌==◌, if◌then◌else◌}
+use Rattle.std.specs.Prelude.{ℕ, Bool, true, false, ◌&&◌, not, Option, Some, None, List, [], ◌∷◌, nat_lt, ◌==◌, if◌then◌else◌}
 use Rattle.std.specs.List.{find, list_all}
 use Rattle.gr_ids.specs.declared.names.Gtid.{Gtid}
 use Rattle.gr_ids.specs.Names.{bytes_eq}
@@ -78,6 +78,11 @@ next_commit (q ∷ qs) b = if is_done q && is_below b q.place then Some q else N
 abbrev pub front_is_done : List Queued → ℕ → Bool
 front_is_done [] p = false
 front_is_done (q ∷ qs) p = is_done q && (q.place == p)
+
+-- the least place isn't done, or none is queued: no place may be committed
+abbrev pub front_waits : List Queued → Bool
+front_waits [] = true
+front_waits (q ∷ qs) = not (is_done q)
 
 abbrev pub shown : Queued → QueuedPlace
 shown q = record { place = q.place; done = is_done q }

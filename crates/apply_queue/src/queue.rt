@@ -2,7 +2,7 @@
 ghost use Rattle.std.specs.Prelude.{◌≡◌, ◌++◌, ◌∷◌, [], None, Some, true, false, ℕ, map, IfErr, IfNone, IfOk, IfSome, MatchOption, OnErr, OnOk};
 ghost use Rattle.gr_ids.specs.declared.names.Gtid.{Gtid as AnyGtid};
 ghost use Rattle.gr_ids.specs.declared.memory.Memory.{Memory};
-ghost use Rattle.apply_queue.specs.Queues.{Done as IsDone, Mark, Waiting as IsWaiting, at_place, first_waiting, front_is_done, handed_out, is_above, is_below, next_commit, refusal, shown, with_done};
+ghost use Rattle.apply_queue.specs.Queues.{Done as IsDone, Mark, Waiting as IsWaiting, at_place, first_waiting, front_is_done, front_waits, handed_out, is_above, is_below, next_commit, refusal, shown, with_done};
 ghost use Rattle.std.specs.Option.{option_map};
 
 use crate::entry::Entry;
@@ -140,7 +140,7 @@ impl Queue {
 
     /// Whether the least queued place isn't done, or nothing is queued: then no place may be committed. Takes constant time, and no memory.
     pub fn front_waits(&self) -> bool
-        ensures { result ≡ true → (p : ℕ) → front_is_done self.now p ≡ false }
+        ensures { result ≡ front_waits self.now }
     {
         match self.entries.front() {
             Some(front) => !front.is_done(),

@@ -12,6 +12,7 @@ ghost use Rattle.group_rules.specs.Taking.{takes_slots};
 ghost use Rattle.node_rules.specs.Lists.{In};
 ghost use Rattle.member_backlog.specs.Standing.{uncommitted_of};
 ghost use Rattle.member_parts.specs.Committing.{IsPending};
+ghost use Rattle.member_parts.specs.Resting.{commits_none, prepares_none};
 ghost use Rattle.member_moment.specs.Standing.{Stands};
 ghost use Rattle.member_moment.specs.Telling.{is_arriving};
 
@@ -85,18 +86,20 @@ impl Moment {
         self.parts.owes_prepared(self.alloc, self.me.inc, one)
     }
 
-    /// Whether nothing that waits may be committed, told without a walk; false says nothing. Takes constant time, and no memory.
+    /// Whether its parts tell without a walk that nothing that waits may be committed. Takes constant time, and no memory.
     pub fn commits_none(&self) -> bool
-        ensures { result ≡ true → (base : Life) (a : Member) → Stands base a self.now → is_error (state_of a.life) ≡ false
+        ensures told { result ≡ commits_none self.now.parts }
+        ensures none { result ≡ true → (base : Life) (a : Member) → Stands base a self.now → is_error (state_of a.life) ≡ false
             → (c : Cert) → In c (pending a.life) → may_commit_by a.setup a.life a.me.inc c ≡ false }
     {
         self.parts.commits_none()
     }
 
-    /// Whether it owes no Prepared entry, told without a walk; false says nothing. Linear in the runs of those that require it and of those that
-    /// it sent; takes no memory.
+    /// Whether its parts tell without a walk that it owes no Prepared entry. Linear in the runs of those that require it and of those that it sent;
+    /// takes no memory.
     pub fn prepares_none(&self) -> bool
-        ensures { result ≡ true → (base : Life) (a : Member) → Stands base a self.now → is_error (state_of a.life) ≡ false
+        ensures told { result ≡ prepares_none self.now.parts }
+        ensures none { result ≡ true → (base : Life) (a : Member) → Stands base a self.now → is_error (state_of a.life) ≡ false
             → (c : Cert) → In c (pending a.life) → owes a.setup a.life a.me.inc c ≡ false }
     {
         self.parts.prepares_none()

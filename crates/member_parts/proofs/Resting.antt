@@ -11,7 +11,7 @@ use Rattle.group_rules.specs.Events.{Cert, Life, Setup}
 use Rattle.group_rules.specs.Life.{is_error, state}
 use Rattle.group_rules.specs.Queue.{is_done, is_own, pending, queue}
 use Rattle.apply_queue.specs.Following.{IsRising}
-use Rattle.apply_queue.specs.Queues.{Queued, front_is_done, shown, is_done as is_done_now}
+use Rattle.apply_queue.specs.Queues.{Queued, front_is_done, front_waits, shown, is_done as is_done_now}
 use Rattle.apply_queue.proofs.Lives.{is_others, queue_is, stands}
 use Rattle.apply_queue.proofs.Fronts.{rises}
 use Rattle.apply_queue.proofs.Standing.{Stand}
@@ -20,7 +20,7 @@ use Rattle.member_backlog.specs.Waiting.{is_clear}
 use Rattle.prepare_acks.specs.Awaited.{is_complete}
 use Rattle.member_parts.specs.declared.parts.MemberParts.{MemberParts}
 use Rattle.member_parts.specs.Committing.{IsPending, are_done_to}
-use Rattle.member_parts.specs.Remote.{own_work}
+use Rattle.member_parts.specs.Remote.{OwnWork, none_waits, own_work}
 use Rattle.member_parts.specs.Standing.{StandsFor}
 use Rattle.member_parts.proofs.Committed.{pending_rises}
 use Rattle.member_parts.proofs.Told.{owes_none, owes_one, prepared_other, tells_other}
@@ -28,6 +28,20 @@ use Rattle.member_parts.proofs.Told.{owes_none, owes_one, prepared_other, tells_
 and_false : (b : Bool) → (b && false) ≡ false
 and_false true = refl
 and_false false = refl
+
+-- ---- what is told
+
+pub none_is_left : (ws : List OwnWork) → none_waits ws ≡ true → ws ≡ []
+none_is_left [] e = refl
+none_is_left (w ∷ ws) e = absurd (cc e)
+
+pub front_rests : (qs : List Queued) → front_waits qs ≡ true → (p : ℕ) → front_is_done qs p ≡ false
+front_rests [] e p = refl
+front_rests (q ∷ qs) e p = go (is_done_now q) e
+  where
+    go : (b : Bool) → not b ≡ true → (b && (q.place == p)) ≡ false
+    go false k = refl
+    go true k = absurd (cc k)
 
 -- ---- commits
 

@@ -5,3 +5,4 @@ pub mod Standing
 pub mod Committing
 pub mod Ending
 pub mod Giving
+pub mod Resting

@@ -1,5 +1,5 @@
 -- Certified transactions that aren't committed, with what their commit writes: those of other origins, which are queued, and a member's own.
-use Rattle.std.specs.Prelude.{ℕ, suc, ◌&&◌, not, Option, Some, None, List, [], ◌∷◌, ◌++◌, fold, nat_le, if◌then◌else◌}
+use Rattle.std.specs.Prelude.{ℕ, suc, Bool, true, false, ◌&&◌, not, Option, Some, None, List, [], ◌∷◌, ◌++◌, fold, nat_le, if◌then◌else◌}
 use Rattle.gr_ids.specs.declared.names.Inc.{Inc}
 use Rattle.gr_ids.specs.declared.names.Gtid.{Gtid}
 use Rattle.gr_ids.specs.Names.{gtid_eq, inc_eq}
@@ -63,6 +63,11 @@ own_work c = record { place = c.place; gtid = c.gtid; body = body_bytes (Writes 
 abbrev pub with_own : Inc → Gtids → List Cert → List OwnWork → List OwnWork
 with_own me e [] ws = ws
 with_own me e (c ∷ cs) ws = ws ++ (if is_own me c && not (has e c.gtid) then own_work c ∷ [] else [])
+
+-- none waits for its commit
+abbrev pub none_waits : List OwnWork → Bool
+none_waits [] = true
+none_waits (w ∷ ws) = false
 
 -- it is committed
 abbrev pub without_own : Gtid → List OwnWork → List OwnWork

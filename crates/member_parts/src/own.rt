@@ -4,7 +4,7 @@ ghost use Rattle.std.specs.List.{find, prefix_len};
 ghost use Rattle.gr_ids.specs.declared.memory.Memory.{Memory};
 ghost use Rattle.gr_ids.specs.declared.names.Gtid.{Gtid as AnyGtid};
 ghost use Rattle.gr_ids.specs.Names.{gtid_eq};
-ghost use Rattle.member_parts.specs.Remote.{OwnWork, without_own};
+ghost use Rattle.member_parts.specs.Remote.{OwnWork, none_waits, without_own};
 
 use apply_queue::WorkDone;
 use gr_ids::{Gtid, Memory};
@@ -53,7 +53,7 @@ impl OwnCertified {
 
     /// Whether none waits. Takes constant time, and no memory.
     pub(crate) fn is_empty(&self) -> bool
-        ensures { result ≡ true → self.now ≡ [] }
+        ensures { result ≡ none_waits self.now }
     {
         self.waiting.is_empty()
     }

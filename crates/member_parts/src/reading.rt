@@ -13,6 +13,7 @@ ghost use Rattle.apply_queue.specs.Queues.{front_is_done};
 ghost use Rattle.member_backlog.specs.Waiting.{is_clear};
 ghost use Rattle.prepare_acks.specs.Awaited.{is_complete};
 ghost use Rattle.member_parts.specs.Committing.{IsPending, are_done_to};
+ghost use Rattle.member_parts.specs.Resting.{commits_none, prepares_none};
 ghost use Rattle.member_parts.specs.Standing.{StandsFor};
 
 use crate::committing::is_mine;
@@ -33,10 +34,11 @@ impl MemberParts {
         other_may_go(self, one)
     }
 
-    /// Whether none of those that wait may be committed, told without a walk: none is an own one, and the first of the queue isn't done. False
-    /// says nothing. Takes constant time, and no memory.
+    /// Whether none is an own one, of those that wait, and the first of the queue isn't done: then none may be committed. Takes constant time, and
+    /// no memory.
     pub fn commits_none(&self) -> bool
-        ensures { result ≡ true → (s : Setup) (me : Member) (l : Life) → is_error (state l) ≡ false → StandsFor s me l self.now
+        ensures told { result ≡ commits_none self.now }
+        ensures none { result ≡ true → (s : Setup) (me : Member) (l : Life) → is_error (state l) ≡ false → StandsFor s me l self.now
             → (c : Cert) → In c (pending l) → may_commit_by s l me c ≡ false }
     {
         if !self.own.is_empty() {
@@ -45,10 +47,11 @@ impl MemberParts {
         self.queue().front_waits()
     }
 
-    /// Whether no Prepared entry is owed, told without a walk: the first of the queue isn't done, or each transaction that requires this member has
-    /// its entry sent. False says nothing. Linear in the runs of the two sets; takes no memory.
+    /// Whether the first of the queue isn't done, or each transaction that requires this member has its Prepared entry sent: then none is owed.
+    /// Linear in the runs of the two sets; takes no memory.
     pub fn prepares_none(&self) -> bool
-        ensures { result ≡ true → (s : Setup) (me : Member) (l : Life) → is_error (state l) ≡ false → StandsFor s me l self.now
+        ensures told { result ≡ prepares_none self.now }
+        ensures none { result ≡ true → (s : Setup) (me : Member) (l : Life) → is_error (state l) ≡ false → StandsFor s me l self.now
             → (c : Cert) → In c (pending l) → owes_prepared_by s l me c ≡ false }
     {
         if self.queue().front_waits() {
