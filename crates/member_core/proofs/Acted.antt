@@ -28,11 +28,12 @@ use Rattle.member_moment.proofs.Doing.{does_same, does_then}
 use Rattle.member_core.specs.declared.event.Event.{Event as Happening}
 use Rattle.member_core.specs.declared.event.Event.TheVariants.{Message as Comes, Tick, Done, Undone, Session, Operate}
 use Rattle.member_core.specs.declared.event.StepLeft.{StepLeft}
-use Rattle.member_core.specs.declared.member.Member.{Member as Running}
 use Rattle.member_core.specs.declared.member.Started.{Started}
 use Rattle.member_core.specs.Acting.{caller_of, come, hold_by, step_of}
 use Rattle.member_core.specs.Points.{IsWell}
-use Rattle.member_core.specs.Standing.{HasStarted, IsMember, IsStepOf, cleared, event_of}
+use Rattle.member_core.specs.Whole.{Contents, closed}
+use Rattle.member_core.specs.Standing.{HasStarted, IsMadeOf, IsMember, IsStepOf, cleared, event_of}
+use Rattle.member_core.proofs.Closed.{is_member}
 use Rattle.member_core.proofs.Quiet.{marks_held, rest}
 
 -- ---- what comes
@@ -125,16 +126,16 @@ step_is e a = refl
 left_is : (a b : Member) (since : Life) → b.life ≡ since ++ a.life → left_by a b ≡ reverse since
 left_is a b since e = ap (λ l. reverse (take (length l - length a.life) l)) e ∙ ap reverse (take_more since a.life)
 
-pub stepped : (e : Event) (a : Member) (left : StepLeft) (old new : Running) (y : Moment) → IsKept (step e a) → IsMember a old → new.earlier ≡ old.earlier → Stands a.life (step e a) y
+pub stepped : (e : Event) (a : Member) (left : StepLeft) (old new : Contents) (y : Moment) → IsKept (step e a) → IsMadeOf a old → new.earlier ≡ old.earlier → Stands a.life (step e a) y
     → Stands (step e a).life (cleared (step e a)) new.moment → Marked a.life (step e a).life left.marks.items → left.sent.items ≡ map spelt (arranged (step e a).sent)
-    → stored (step e a).life ≡ stored a.life → ((s : Setup) (me : Inc) (l : Life) → IsTrue s me l → HasPlaces l) → IsStepOf e a left new
+    → stored (step e a).life ≡ stored a.life → ((s : Setup) (me : Inc) (l : Life) → IsTrue s me l → HasPlaces l) → IsStepOf e a left (closed new)
 stepped e a left old new y k m same st now marked sent kept places =
     let b : Member = step e a in record {
-      stands = record {
+      stands = is_member b new (record {
         moment = now;
         earlier = subst (λ x. IsEarlier (stored b.life) x) (sym same) (subst (λ z. IsEarlier z old.earlier) (sym kept) m.earlier);
         places = places b.setup b.me.inc b.life (k b.life ([], refl) st.rest.ranged);
-      };
+      });
       marks = marked.told ∙ ap marks_of (sym (left_is a b marked.since marked.grown));
       sent = sent;
       spellable = st.rest.sent_range;
@@ -143,11 +144,16 @@ stepped e a left old new y k m same st now marked sent kept places =
 
 -- ---- the begin
 
-pub founded : (s : Setup) (me : Joiner) (x : Running) → Stands (found s me).life (cleared (found s me)) x.moment → IsEarlier nothing_stored x.earlier → IsMember (found s me) x
+pub founded : (s : Setup) (me : Joiner) (x : Contents) → Stands (found s me).life (cleared (found s me)) x.moment → IsEarlier nothing_stored x.earlier → IsMember (found s me) (closed x)
 unfolding found
-founded s me x st e = record { moment = st; earlier = e; places = λ c d h. absurd h }
+founded s me x st e = is_member (found s me) x (record { moment = st; earlier = e; places = λ c d h. absurd h })
 
-pub started : (s : Setup) (me : Joiner) (y : Stored) (i : Inc) (x : Started) → Stands (start s me y i).life (cleared (start s me y i)) x.member.moment → IsEarlier y x.member.earlier → HasPlaces (Starts y ∷ [])
+pub started : (s : Setup) (me : Joiner) (y : Stored) (i : Inc) (x : Started) (z : Contents) → x.member ≡ closed z → Stands (start s me y i).life (cleared (start s me y i)) z.moment → IsEarlier y z.earlier → HasPlaces (Starts y ∷ [])
     → x.sent.items ≡ map spelt (arranged (start s me y i).sent) → AreMessages (start s me y i).sent → HasStarted (start s me y i) x
 unfolding start
-started s me y i x st e p q h = record { stands = record { moment = st; earlier = e; places = p }; sent = q; spellable = h }
+started s me y i x z same st e p q h =
+    let a : Member = start s me y i in record {
+      stands = subst (λ w. IsMember a w) (sym same) (is_member a z (record { moment = st; earlier = e; places = p }));
+      sent = q;
+      spellable = h;
+    }

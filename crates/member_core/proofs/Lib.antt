@@ -6,4 +6,5 @@ pub mod Listening
 pub mod Ticked
 pub mod Operated
 pub mod Quiet
+pub mod Closed
 pub mod Acted

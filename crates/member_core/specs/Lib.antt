@@ -4,4 +4,5 @@ pub mod Hearing
 pub mod Ticking
 pub mod Operating
 pub mod Acting
+pub mod Whole
 pub mod Standing

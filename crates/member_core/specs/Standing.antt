@@ -18,18 +18,22 @@ use Rattle.member_core.specs.Operating.{IsOperator}
 use Rattle.member_core.specs.declared.event.Event.{Event as Happening}
 use Rattle.member_core.specs.declared.event.Event.TheVariants.{Message as Comes, Tick, Done, Undone, Session, Operate}
 use Rattle.member_core.specs.declared.event.StepLeft.{StepLeft}
-use Rattle.member_core.specs.declared.member.Member.{Member as Running}
+use Rattle.member_core.specs.Whole.{Contents, Whole as Running, contents}
 use Rattle.member_core.specs.declared.member.Started.{Started}
 
 -- the messages of a step are handed out at its end
 abbrev pub cleared : Member → Member
 cleared a = record a { sent = [] }
 
--- It stands for a member of the rules, between two steps. No two certified transactions that the member knows have one place.
-pub record IsMember (a : Member) (x : Running) : Type 0 where
+-- It is made for a member of the rules, between two steps. No two certified transactions that the member knows have one place.
+pub record IsMadeOf (a : Member) (x : Contents) : Type 0 where
   pub moment : Stands a.life (cleared a) x.moment
   pub earlier : IsEarlier (stored a.life) x.earlier
   pub places : HasPlaces a.life
+
+-- It stands for a member of the rules.
+unfoldable pub IsMember : Member → Running → Type 0
+IsMember a x = IsMadeOf a (contents x)
 
 -- ---- events
 

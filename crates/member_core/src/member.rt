@@ -34,6 +34,7 @@ use paxos_forms::Message;
 use plain_steps::steps_are_plain;
 use slot_values::Joiner;
 use std::alloc::Global;
+use std::marker::Model;
 
 /// A member: an incarnation with all that it keeps. After want of memory it stands for nothing any more.
 #[derive(Drop)]
@@ -42,6 +43,16 @@ pub struct Member {
     pub(crate) moment: Moment,
     /// What its server had of the incarnations before.
     pub(crate) earlier: Earlier,
+}
+
+impl Model for Member {
+    ghost use Rattle.member_core.specs.Whole.{Whole, closed, code};
+
+    ghost Value = { Whole };
+
+    ghost coded = { code };
+
+    ghost view = { λ m. closed (record { moment = m.moment; earlier = m.earlier }) };
 }
 
 /// A joiner at its start, with the messages that it sends.

@@ -4,7 +4,7 @@ use Rattle.member_core.proofs.Pointing.{commits_none, ends_at, next_committed, n
 use Rattle.member_core.proofs.points.commit_all.Goals as goal
 
 pub returns-then-commits_none : goal.returns-then-commits_none
-returns-then-commits_none c = commits_none c.args.moment.now (c.commits_none.ensures c.if-commits_none.true)
+returns-then-commits_none c = commits_none c.args.moment.now (c.commits_none.ensures.none c.if-commits_none.true)
 
 pub loop-one-init : goal.loop-one-init
 loop-one-init c = none_done commit_one c.deref-one-items.result.now c.args.moment.now (λ base a st. c.deref-one-items.ensures.value ∙ c.in_ok-waiting.ensures base a st)

@@ -4,7 +4,7 @@ use Rattle.member_core.proofs.Pointing.{ends_at, next_prepared, none_done, prepa
 use Rattle.member_core.proofs.points.prepare_all.Goals as goal
 
 pub returns-then-prepares_none : goal.returns-then-prepares_none
-returns-then-prepares_none c = prepares_none c.args.moment.now (c.prepares_none.ensures c.if-prepares_none.true)
+returns-then-prepares_none c = prepares_none c.args.moment.now (c.prepares_none.ensures.none c.if-prepares_none.true)
 
 pub loop-one-init : goal.loop-one-init
 loop-one-init c = none_done prepare_one c.deref-one-items.result.now c.args.moment.now (λ base a st. c.deref-one-items.ensures.value ∙ c.in_ok-waiting.ensures base a st)

@@ -1,5 +1,6 @@
 use Rattle.member_core.specs.Standing.{cleared}
+use Rattle.member_core.proofs.Closed.{is_made_of}
 use Rattle.member_core.proofs.member.Member.is_active.Goals as goal
 
 pub returns : goal.returns
-returns c = λ a m. c.is_active.ensures a.life (cleared a) m.moment
+returns c = λ a m. c.is_active.ensures a.life (cleared a) (is_made_of a _ _ c.self.view_is m).moment

@@ -13,4 +13,4 @@ returns c = λ y k.
     let a = start s c.args.me y c.args.contact in
     let kept = subst (λ gs. IsStored y c.args.kept.executed c.args.kept.store gs) (sym c.as_slice.ensures.value) k.stored in
     let st = c.in_ok-moment.ensures s y c.requires.founding refl kept in
-    started s c.args.me y c.args.contact _ (c.end_step-sent.ensures.stands a.life a st) k.earlier k.stored.places (c.in_ok-sent.ensures ∙ ap (λ ms. map spelt (arranged ms)) (c.end_step-sent.ensures.left a.life a st).1) st.rest.sent_range)
+    started s c.args.me y c.args.contact _ _ refl (c.end_step-sent.ensures.stands a.life a st) k.earlier k.stored.places (c.in_ok-sent.ensures ∙ ap (λ ms. map spelt (arranged ms)) (c.end_step-sent.ensures.left a.life a st).1) st.rest.sent_range)
