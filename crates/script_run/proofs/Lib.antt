@@ -3,6 +3,6 @@ pub mod Parts
 pub mod Playing
 pub mod Exits
 pub mod Steps
-pub mod Splitting
-pub mod Servers
-pub mod Decimals
+pub mod Players
+pub mod Makers
+pub mod Clap

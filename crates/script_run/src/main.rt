@@ -3,20 +3,21 @@
 
 mod command;
 mod front_line;
-mod grammar;
 mod limits;
 mod line;
+mod line_text;
+mod made;
+mod make;
+mod numeral;
+mod parsing;
+mod placing;
+mod player;
 mod reader;
 mod run;
-mod said;
 mod scan;
 mod status;
-mod step;
 #[cfg(test)]
 mod tests;
-mod texts;
-mod words;
-mod world;
 
 use gr_io::{StdSink, StdSource};
 use std::process::ExitCode;

@@ -1,0 +1,11 @@
+pub mod Sites
+pub mod Standing
+pub mod Events
+pub mod Running
+pub mod Draining
+pub mod Changes
+pub mod Changing
+pub mod Founding
+pub mod Refusing
+pub mod Applying
+pub mod Writing
