@@ -1,5 +1,5 @@
 -- A step of a script, as a whole.
-use Rattle.std.proofs.Common.{◌≡◌, ◌∙◌, Bool, true, false, Option, Some, None, List, [], refl, sym, ap, subst}
+use Rattle.std.proofs.Common.{◌≡◌, ◌∙◌, false, Option, Some, None, List, [], refl, sym, ap, subst}
 use Rattle.std.specs.Prelude.{option_map}
 use Rattle.group_rules.specs.declared.said.Said.{Said}
 use Rattle.group_rules.specs.declared.steps.Step.{Step}

@@ -1,5 +1,5 @@
 -- A transaction of one statement, call by call.
-use Rattle.std.proofs.Common.{◌≡◌, ℕ, true, false, refl, ap, sym, subst, ◌∙◌}
+use Rattle.std.proofs.Common.{◌≡◌, ℕ, true, false, refl}
 use Rattle.group_rules.specs.declared.requests.Request.{Request}
 use Rattle.group_rules.specs.declared.requests.Request.TheVariants.{Commit, Rollback}
 use Rattle.group_rules.specs.Events.{Calls}

@@ -1,6 +1,6 @@
 -- A group that is founded.
 use Rattle.std.proofs.Common.{◌≡◌, ◌⊎◌, inl, inr, ℕ, zero, suc, ◌<◌, ◌≤◌, ◌/◌, ◌*◌, ◌+◌, ◌%◌, Bool, true, false, Some, None, Option, List, [], ◌∷◌, ◌++◌, append-nil, append_assoc, length, refl, sym, ap, subst, ◌∙◌, arith}
-use Rattle.std.specs.Prelude.{◌==◌, ◌||◌, ◌&&◌, not, is_some, map, nat_lt}
+use Rattle.std.specs.Prelude.{◌==◌, ◌||◌, ◌&&◌, not, is_some, nat_lt}
 use Rattle.std.specs.List.{list_any}
 use Rattle.std.proofs.lemmas.Bool.Decides.{nat_tests}
 use Rattle.byte_forms.specs.Lists.{IsChain}
@@ -27,7 +27,7 @@ use Rattle.gr_ids.specs.declared.levels.Mode.{Mode}
 use Rattle.play_runs.specs.Runs.{IsRun}
 use Rattle.group_world.specs.Founding.{AreFounded, IsWithin}
 use Rattle.group_world.specs.Sites.{AreSites}
-use Rattle.group_world.specs.Standing.{Along, AreDeclared, Holds, setup_in}
+use Rattle.group_world.specs.Standing.{Along, AreDeclared, setup_in}
 use Rattle.world_servers.specs.Naming.{AreOf}
 use Rattle.group_world.specs.declared.founding.Founding.{Founding}
 use Rattle.group_world.specs.declared.stage.Stage.{Stage}

@@ -3,12 +3,12 @@ use Rattle.std.proofs.Common.{◌≡◌, inl, inr, ℕ, Some, None, Option, List
 use Rattle.std.specs.Prelude.{map}
 use Rattle.gtid_sets.specs.Canonical.{IsUuid}
 use Rattle.group_rules.specs.Script.{Play, plays, said_of}
-use Rattle.group_rules.specs.World.{Server, Stops, World, move, server_at, stop, with_server}
+use Rattle.group_rules.specs.World.{Server, Stops, World, move, server_at, stop}
 use Rattle.world_servers.specs.Naming.{declared_of}
 use Rattle.play_runs.specs.Runs.{IsRun}
 use Rattle.group_world.specs.Changing.{stopped, with_change}
 use Rattle.group_world.specs.Sites.{AreSites, Rises, at_number}
-use Rattle.group_world.specs.Standing.{Along, AreDeclared, Holds, setup_in}
+use Rattle.group_world.specs.Standing.{Along, AreDeclared, setup_in}
 use Rattle.group_world.specs.declared.stage.Stage.{Stage}
 use Rattle.group_world.proofs.Finding.{at_in}
 use Rattle.group_world.proofs.Servers.{in_with, map_with, rises_with}

@@ -1,15 +1,14 @@
 -- Letters that are delivered and lost.
-use Rattle.std.proofs.Common.{◌≡◌, inl, inr, ℕ, zero, suc, ◌+◌, Bool, true, false, Option, Some, None, List, [], ◌∷◌, length, slice_get, refl, sym, ap, subst, ◌∙◌, arith}
+use Rattle.std.proofs.Common.{◌≡◌, inl, inr, ℕ, zero, suc, ◌+◌, Bool, true, false, Option, Some, None, List, [], ◌∷◌, length, slice_get, refl, sym, ap, ◌∙◌, arith}
 use Rattle.std.specs.Prelude.{◌==◌, ◌||◌, nat_lt, ◌^◌, map, option_map}
 use Rattle.std.proofs.lemmas.Bool.Decides.{nat_tests}
 use Rattle.paxos_forms.specs.declared.message.Message.{Message}
-use Rattle.paxos_forms.specs.Messages.{IsMessage}
 use Rattle.node_rules.specs.Lists.{In}
 use Rattle.group_rules.specs.Events.{Hears}
 use Rattle.group_rules.specs.Script.{Letter, Play, is_full, letter_at, set_letter, total}
-use Rattle.group_rules.specs.World.{Takes, World, event_at, kth, move, nothing_happens, runs, server_at, take_message}
+use Rattle.group_rules.specs.World.{Takes, World, kth, move, nothing_happens, runs, take_message}
 use Rattle.group_world.specs.Events.{IsMoveOf}
-use Rattle.group_world.specs.Standing.{Along, Carries}
+use Rattle.group_world.specs.Standing.{Along}
 use Rattle.group_world.specs.declared.stage.Stage.{Stage}
 
 abbrev messages : List Letter → List Message

@@ -1,5 +1,5 @@
 -- What is reported of the members, one site after another.
-use Rattle.std.proofs.Common.{◌≡◌, ℕ, Option, Some, None, List, ◌∷◌, length, refl, sym, ap, subst, ◌∙◌}
+use Rattle.std.proofs.Common.{◌≡◌, ℕ, Some, None, List, ◌∷◌, length, sym, ap, ◌∙◌}
 use Rattle.std.specs.Prelude.{map}
 use Rattle.group_rules.specs.Member.{Member}
 use Rattle.group_rules.specs.World.{Server}

@@ -12,7 +12,6 @@ use Rattle.member_core.specs.Standing.{IsMember}
 use Rattle.member_core.specs.declared.member.Member.{Member as Running}
 use Rattle.group_world.specs.Sites.{AreSites, HasMember, at_number}
 use Rattle.group_world.specs.Standing.{Along, Goes}
-use Rattle.group_world.specs.declared.site.Site.{Site}
 use Rattle.group_world.specs.declared.stage.Stage.{Stage}
 
 -- one thing more is said

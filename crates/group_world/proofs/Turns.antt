@@ -1,5 +1,5 @@
 -- Loops of turns: the turns that are left lead to the same play.
-use Rattle.std.proofs.Common.{◌≡◌, ◌≤◌, ◌<◌, ◌-◌, ◌+◌, ℕ, suc, zero, refl, sym, ap, subst, ◌∙◌, arith}
+use Rattle.std.proofs.Common.{◌≡◌, ◌≤◌, ◌<◌, ◌-◌, ◌+◌, ℕ, suc, zero, sym, ap, subst, ◌∙◌, arith}
 use Rattle.group_rules.specs.Script.{Play}
 use Rattle.world_wire.specs.declared.fault.WireFault.{WireFault}
 use Rattle.group_world.specs.Standing.{Along, Closes, Ends, Goes}

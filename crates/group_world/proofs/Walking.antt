@@ -1,5 +1,5 @@
 -- The sites one after another.
-use Rattle.std.proofs.Common.{◌≡◌, ℕ, Option, Some, None, List, [], ◌∷◌, length, refl, sym, ap, subst, ◌∙◌, arith}
+use Rattle.std.proofs.Common.{◌≡◌, Option, Some, None, List, [], ◌∷◌, length, refl, sym, ap, subst, arith}
 use Rattle.gr_ids.specs.declared.names.Inc.{Inc}
 use Rattle.group_rules.specs.Member.{Member}
 use Rattle.group_rules.specs.World.{Server}

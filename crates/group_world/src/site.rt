@@ -91,6 +91,8 @@ fn turn_of(member: &mut Member, event: Event) -> Result<Turn, Memory>
     ensures { IfOk result (λ t. (a : Rules) → IsKept (step (event_of event) a) → IsMember a member.old → IsTurn (event_of event) a t × IsMember (step (event_of event) a) member.new) }
 {
     let inc = member.inc();
-    let left = member.step(event)?;
-    Ok(Turn { inc, left })
+    match member.step(event) {
+        Ok(left) => Ok(Turn { inc, left }),
+        Err(_) => Err(Memory),
+    }
 }

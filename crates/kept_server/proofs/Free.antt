@@ -1,9 +1,8 @@
 -- The next number of a server's own UUID is free.
-use Rattle.std.proofs.Common.{◌≡◌, ◌≤◌, inl, inr, ℕ, suc, Bool, true, false, ◌&&◌, List, [], ◌∷◌, length, refl, sym, ap, ◌∙◌, arith}
+use Rattle.std.proofs.Common.{◌≡◌, ◌≤◌, inl, inr, ℕ, suc, Bool, true, false, ◌&&◌, List, [], ◌∷◌, length, refl, ap, ◌∙◌, arith}
 use Rattle.std.specs.Prelude.{◌==◌}
 use Rattle.std.proofs.lemmas.Bool.{ne_eqb}
-use Rattle.gr_ids.specs.Names.{bytes_eq, gtid_eq}
-use Rattle.gr_ids.specs.declared.names.Gtid.{Gtid}
+use Rattle.gr_ids.specs.Names.{bytes_eq}
 use Rattle.node_rules.specs.Lists.{In}
 use Rattle.group_rules.specs.Events.{Cert, OfflineWrite, Starts, Stored}
 use Rattle.row_store.specs.Following.{IsFree}

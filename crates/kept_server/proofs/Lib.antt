@@ -1,3 +1,4 @@
-mod Free
-mod Stopped
-mod Written
+pub mod Free
+pub mod Leading
+pub mod Redone
+pub mod Written

@@ -14,7 +14,6 @@ use Rattle.row_store.specs.Following.{HasPlaces, RowsOf}
 use Rattle.member_tables.specs.Standing.{HasGtids}
 use Rattle.kept_server.specs.declared.kept.Earlier.{Earlier}
 use Rattle.kept_server.specs.declared.kept.KeptServer.{KeptServer}
-use Rattle.kept_server.specs.declared.stopping.Remains.{Remains}
 
 -- its executed set, its rows and the transactions that it committed
 pub record IsStored (y : Stored) (e : Gtids) (cs : List Chain) (gs : List Given) : Type 0 where
@@ -41,15 +40,6 @@ pub record KeptFor (y : Stored) (k : KeptServer) : Type 0 where
 -- what is stored behind it
 abbrev pub left_of : Life → Stored
 left_of l = record { executed = executed l; committed = (stored l).committed ++ committed_of l (certs l); writes = (stored l).writes }
-
--- its executed set and rows, and what it committed itself
-pub record Leaves (l : Life) (x : Remains) : Type 0 where
-  pub set : x.executed ≡ executed l
-  pub canonical : IsCanonical (executed l)
-  pub rows : RowsOf (Starts (left_of l) ∷ []) x.store
-  pub gtids : HasGtids (Starts (left_of l) ∷ [])
-  pub places : HasPlaces (Starts (left_of l) ∷ [])
-  pub committed : x.committed.items ≡ map given_of (committed_of l (certs l))
 
 -- ---- a row that is written offline
 

@@ -2,8 +2,7 @@
 #![tactic(auto)]
 
 mod kept;
-mod stopping;
+mod redoing;
 mod writing;
 
-pub use kept::{Earlier, KeptServer};
-pub use stopping::Remains;
+pub use kept::{Earlier, KeptServer, KeptTables};

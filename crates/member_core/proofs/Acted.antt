@@ -1,9 +1,9 @@
 -- The action of a step, and the whole step.
-use Rattle.std.proofs.Common.{◌≡◌, ◌-◌, ◌++◌, ℕ, Bool, true, false, Option, Some, None, [], ◌∷◌, length, map, reverse, take, refl, sym, ap, ◌∙◌, subst}
+use Rattle.std.proofs.Common.{◌≡◌, ◌-◌, ◌++◌, ℕ, Bool, true, false, Option, Some, None, List, [], length, map, reverse, take, refl, sym, ap, ◌∙◌, subst}
 use Rattle.group_rules.specs.declared.answers.Answer.TheVariants.{Held}
 use Rattle.group_rules.specs.declared.requests.Request.{Request}
 use Rattle.group_rules.specs.Sessions.{is_holding, phase}
-use Rattle.group_rules.specs.Events.{Answered, Came, Event, Ticks, Starts, Life, Setup, Stored, marks_of}
+use Rattle.group_rules.specs.Events.{Answered, Came, Event, Ticks, Life, Setup, Stored, marks_of}
 use Rattle.group_rules.specs.Histories.{arranged}
 use Rattle.group_rules.specs.Life.{is_error, state, stored}
 use Rattle.group_rules.specs.Member.{Member, push}
@@ -12,11 +12,12 @@ use Rattle.group_rules.specs.Steps.{act, act_alive, act_in_error, found, left_by
 use Rattle.group_rules.specs.Taking.{settle_slots}
 use Rattle.group_rules.specs.World.{nothing_stored}
 use Rattle.slot_values.specs.declared.value.Joiner.{Joiner}
-use Rattle.kept_server.specs.Keeping.{IsEarlier}
+use Rattle.paxos_forms.specs.declared.recovery.Given.{Given}
+use Rattle.kept_server.specs.Keeping.{left_of}
+use Rattle.kept_server.specs.Redoing.{LeadTo}
+use Rattle.std.proofs.lemmas.List.{append-nil}
 use Rattle.gr_ids.specs.declared.names.Inc.{Inc}
-use Rattle.row_store.specs.Following.{HasPlaces}
 use Rattle.member_truth.specs.Growing.{Grows}
-use Rattle.member_truth.specs.Truth.{IsTrue}
 use Rattle.member_truth.proofs.Grown.{acts_alive, either, points, promised, pushes, settles, stays, ticks_once}
 use Rattle.member_messages.specs.Sending.{spelt}
 use Rattle.plain_steps.proofs.Last.{take_more}
@@ -31,8 +32,10 @@ use Rattle.member_core.specs.declared.event.StepLeft.{StepLeft}
 use Rattle.member_core.specs.declared.member.Started.{Started}
 use Rattle.member_core.specs.Acting.{caller_of, come, hold_by, step_of}
 use Rattle.member_core.specs.Points.{IsWell}
+use Rattle.member_core.specs.Ledgers.{IsLedger}
+use Rattle.member_core.specs.declared.ledger.Ledger.{Ledger}
 use Rattle.member_core.specs.Whole.{Contents, closed}
-use Rattle.member_core.specs.Standing.{HasStarted, IsMadeOf, IsMember, IsStepOf, cleared, event_of}
+use Rattle.member_core.specs.Standing.{GoesOn, HasStarted, IsMember, IsServerOf, IsStepOf, cleared, event_of}
 use Rattle.member_core.proofs.Closed.{is_member}
 use Rattle.member_core.proofs.Quiet.{marks_held, rest}
 
@@ -126,34 +129,44 @@ step_is e a = refl
 left_is : (a b : Member) (since : Life) → b.life ≡ since ++ a.life → left_by a b ≡ reverse since
 left_is a b since e = ap (λ l. reverse (take (length l - length a.life) l)) e ∙ ap reverse (take_more since a.life)
 
-pub stepped : (e : Event) (a : Member) (left : StepLeft) (old new : Contents) (y : Moment) → IsKept (step e a) → IsMadeOf a old → new.earlier ≡ old.earlier → Stands a.life (step e a) y
-    → Stands (step e a).life (cleared (step e a)) new.moment → Marked a.life (step e a).life left.marks.items → left.sent.items ≡ map spelt (arranged (step e a).sent)
-    → stored (step e a).life ≡ stored a.life → ((s : Setup) (me : Inc) (l : Life) → IsTrue s me l → HasPlaces l) → IsStepOf e a left (closed new)
-stepped e a left old new y k m same st now marked sent kept places =
+pub goes_on : (e : Event) (a : Member) (left : StepLeft) (x y : Moment) (old new : Ledger) (gs : List Given) → Stands a.life (step e a) x → Stands (step e a).life (cleared (step e a)) y
+    → Marked a.life (step e a).life left.marks.items → left.sent.items ≡ map spelt (arranged (step e a).sent) → LeadTo (left_of a.life) gs (left_of (step e a).life)
+    → ((y z w : Stored) → IsLedger y z old → LeadTo z gs w → IsLedger y w new) → stored (step e a).life ≡ stored a.life → IsServerOf a old → GoesOn e a left y new
+goes_on e a left x y old new gs st now marked sent leads noted kept server =
     let b : Member = step e a in record {
-      stands = is_member b new (record {
-        moment = now;
-        earlier = subst (λ x. IsEarlier (stored b.life) x) (sym same) (subst (λ z. IsEarlier z old.earlier) (sym kept) m.earlier);
-        places = places b.setup b.me.inc b.life (k b.life ([], refl) st.rest.ranged);
-      });
+      moment = now;
+      server = subst (λ z. IsLedger z (left_of b.life) new) (sym kept) (noted (stored a.life) (left_of a.life) (left_of b.life) server leads);
       marks = marked.told ∙ ap marks_of (sym (left_is a b marked.since marked.grown));
       sent = sent;
       spellable = st.rest.sent_range;
       ranged = st.rest.ranged;
     }
 
+pub stepped : (e : Event) (a : Member) (left : StepLeft) (x : Contents) → x.is_stopped ≡ false → GoesOn e a left x.moment x.ledger → IsStepOf e a left (closed x)
+stepped e a left x r g = record {
+  stands = is_member (step e a) x (record { moment = g.moment; server = g.server; running = r });
+  marks = g.marks;
+  sent = g.sent;
+  spellable = g.spellable;
+  ranged = g.ranged;
+}
+
 -- ---- the begin
 
-pub founded : (s : Setup) (me : Joiner) (x : Contents) → Stands (found s me).life (cleared (found s me)) x.moment → IsEarlier nothing_stored x.earlier → IsMember (found s me) (closed x)
+pub founded : (s : Setup) (me : Joiner) (x : Contents) → Stands (found s me).life (cleared (found s me)) x.moment → IsLedger nothing_stored nothing_stored x.ledger → x.is_stopped ≡ false → IsMember (found s me) (closed x)
 unfolding found
-founded s me x st e = is_member (found s me) x (record { moment = st; earlier = e; places = λ c d h. absurd h })
+founded s me x st l r = is_member (found s me) x (record { moment = st; server = l; running = r })
 
-pub started : (s : Setup) (me : Joiner) (y : Stored) (i : Inc) (x : Started) (z : Contents) → x.member ≡ closed z → Stands (start s me y i).life (cleared (start s me y i)) z.moment → IsEarlier y z.earlier → HasPlaces (Starts y ∷ [])
+-- nothing is committed at the start
+at_start : (y : Stored) → y ≡ record y { committed = y.committed ++ [] }
+at_start y = ap (λ cs. record y { committed = cs }) (sym (append-nil y.committed))
+
+pub started : (s : Setup) (me : Joiner) (y : Stored) (i : Inc) (x : Started) (z : Contents) → x.member ≡ closed z → Stands (start s me y i).life (cleared (start s me y i)) z.moment → IsLedger y y z.ledger → z.is_stopped ≡ false
     → x.sent.items ≡ map spelt (arranged (start s me y i).sent) → AreMessages (start s me y i).sent → HasStarted (start s me y i) x
 unfolding start
-started s me y i x z same st e p q h =
+started s me y i x z same st l r q h =
     let a : Member = start s me y i in record {
-      stands = subst (λ w. IsMember a w) (sym same) (is_member a z (record { moment = st; earlier = e; places = p }));
+      stands = subst (λ w. IsMember a w) (sym same) (is_member a z (record { moment = st; server = subst (λ w. IsLedger y w z.ledger) (at_start y) l; running = r }));
       sent = q;
       spellable = h;
     }

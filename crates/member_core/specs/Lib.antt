@@ -6,3 +6,4 @@ pub mod Operating
 pub mod Acting
 pub mod Whole
 pub mod Standing
+pub mod Ledgers

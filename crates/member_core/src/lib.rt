@@ -4,8 +4,10 @@
 
 mod acting;
 mod event;
+mod fault;
 mod hearing;
 mod holding;
+mod ledger;
 mod looks;
 mod member;
 mod operating;
@@ -15,4 +17,6 @@ mod slots;
 mod ticking;
 
 pub use event::{Event, StepLeft};
+pub use fault::StepFault;
+pub use ledger::Ledger;
 pub use member::{Member, Started};

@@ -1,5 +1,5 @@
 // A member.
-ghost use Rattle.std.specs.Prelude.{◌≡◌, IfOk, OnOk, map, true};
+ghost use Rattle.std.specs.Prelude.{◌≡◌, IfErr, IfOk, OnErr, OnOk, Some, false, if◌then◌else◌, map, true};
 ghost use Rattle.std.specs.List.{All};
 ghost use Rattle.gr_ids.specs.declared.memory.Memory.{Memory};
 ghost use Rattle.name_forms.specs.Incs.{IsInc};
@@ -16,19 +16,23 @@ ghost use Rattle.member_messages.specs.Sending.{spelt};
 ghost use Rattle.member_ranges.specs.Ranges.{IsFounding, setup_with};
 ghost use Rattle.kept_server.specs.Keeping.{KeptFor};
 ghost use Rattle.member_moment.specs.Doing.{Does, IsKept};
+ghost use Rattle.member_moment.specs.Standing.{Stands};
 ghost use Rattle.member_core.specs.Acting.{step_of};
-ghost use Rattle.member_core.specs.Standing.{HasStarted, IsEvent, IsMember, IsStepOf, event_of};
+ghost use Rattle.member_core.specs.Standing.{GoesOn, HasServerOf, HasStarted, IsEvent, IsMember, IsServerOf, IsStepOf, cleared, event_of};
+ghost use Rattle.member_core.specs.Whole.{is_stopped};
+ghost use Rattle.member_core.specs.declared.fault.StepFault.TheVariants.{Memory as Refused, Stopped};
 
 use crate::acting::act;
 use crate::event::{Event, StepLeft};
+use crate::fault::StepFault;
 use crate::holding::{caller, tell_held};
+use crate::ledger::Ledger;
 use crate::points::point;
 use crate::slots::settle_slots;
 use gr_ids::{Inc, Limits, Memory, Mode};
-use kept_server::{Earlier, KeptServer};
+use kept_server::KeptServer;
 use member_messages::{Outgoing, arrange};
 use member_moment::{Left, Moment};
-use member_tables::what_waits_may_come_next;
 use message_checks::is_message;
 use paxos_forms::Message;
 use plain_steps::steps_are_plain;
@@ -36,13 +40,13 @@ use slot_values::Joiner;
 use std::alloc::Global;
 use std::marker::Model;
 
-/// A member: an incarnation with all that it keeps. After want of memory it stands for nothing any more.
+/// A member: an incarnation with all that it keeps. After want of memory it is stopped, and keeps what its server had at the end of the step before.
 #[derive(Drop)]
 pub struct Member {
     pub(crate) alloc: Global,
     pub(crate) moment: Moment,
-    /// What its server had of the incarnations before.
-    pub(crate) earlier: Earlier,
+    pub(crate) ledger: Ledger,
+    pub(crate) is_stopped: bool,
 }
 
 impl Model for Member {
@@ -52,7 +56,7 @@ impl Model for Member {
 
     ghost coded = { code };
 
-    ghost view = { λ m. closed (record { moment = m.moment; earlier = m.earlier }) };
+    ghost view = { λ m. closed (record { moment = m.moment; ledger = m.ledger; is_stopped = m.is_stopped }) };
 }
 
 /// A joiner at its start, with the messages that it sends.
@@ -77,15 +81,11 @@ impl Member {
     {
         let mut moment = Moment::found(alloc, me, founders, mode, limits)?;
         moment.begin_step();
-        let KeptServer {
-            executed: _,
-            store: _,
-            earlier,
-        } = KeptServer::new(alloc);
         Ok(Member {
             alloc,
             moment,
-            earlier,
+            ledger: Ledger::new(alloc, KeptServer::new(alloc)),
+            is_stopped: false,
         })
     }
 
@@ -104,55 +104,76 @@ impl Member {
         requires contact { IsInc contact }
         ensures { IfOk result (λ x. (y : Stored) → KeptFor y kept → HasStarted (start (setup_with limits mode founders.now) me y contact) x) }
     {
-        let KeptServer {
-            executed,
-            store,
-            earlier,
-        } = kept;
+        let tables = kept.copy_tables(alloc)?;
         let mut moment = Moment::start(
             alloc,
             me,
             contact,
             limits,
-            executed,
-            store,
-            earlier.committed.as_slice(),
+            tables.executed,
+            tables.store,
+            kept.earlier.committed.as_slice(),
         )?;
-        let Left { marks: _, sent } = moment.end_step();
+        let Left {
+            committed: _,
+            marks: _,
+            sent,
+        } = moment.end_step();
         let sent = in_order(alloc, sent)?;
         let member = Member {
             alloc,
             moment,
-            earlier,
+            ledger: Ledger::new(alloc, kept),
+            is_stopped: false,
         };
         Ok(Started { member, sent })
     }
 
-    /// Takes an event: what it asks is done, then what may happen at a point, and then the decided slots are taken. Its cost is that of these.
-    pub fn step(&mut self, event: Event) -> Result<StepLeft, Memory>
+    /// Takes an event: what it asks is done, then what may happen at a point, and then the decided slots are taken. Refused exactly where it is stopped, and then nothing
+    /// changes; else after want of memory it is stopped, and its server keeps what it had at the end of the step before. Its cost is that of what is done.
+    pub fn step(&mut self, event: Event) -> Result<StepLeft, StepFault>
         requires { IsEvent event }
-        ensures { IfOk result (λ left. (a : Rules) → IsKept (step (event_of event) a) → IsMember a self.old → IsStepOf (event_of event) a left self.new) }
+        ensures ok { IfOk result (λ left. (a : Rules) → IsKept (step (event_of event) a) → IsMember a self.old → IsStepOf (event_of event) a left self.new) }
+        ensures running { OnOk result (is_stopped self.old ≡ false) }
+        ensures fault { IfErr result (λ e. e ≡ (if is_stopped self.old then Stopped else Refused)) }
+        ensures same { is_stopped self.old ≡ true → self.new ≡ self.old }
+        ensures stops { OnErr result (is_stopped self.new ≡ true) }
+        ensures kept { OnErr result ((a : Rules) → IsMember a self.old → HasServerOf a self.new) }
     {
-        steps_are_plain();
-        what_waits_may_come_next();
-        self.moment.begin_step();
-        take(&mut self.moment, event)?;
-        let Left { marks, sent } = self.moment.end_step();
-        let sent = in_order(self.alloc, sent)?;
-        Ok(StepLeft { marks, sent })
+        if self.is_stopped {
+            return Err(StepFault::Stopped);
+        }
+        match go_on(self.alloc, &mut self.moment, &mut self.ledger, event) {
+            Ok(left) => Ok(left),
+            Err(Memory) => {
+                self.is_stopped = true;
+                Err(StepFault::Memory)
+            }
+        }
     }
 
-    /// What its server keeps when it stops. Linear in the transactions that it committed.
+    /// Whether a step was refused memory.
+    pub fn is_stopped(&self) -> bool
+        ensures stopped { result ≡ is_stopped self.now }
+        ensures member { (a : Rules) → IsMember a self.now → result ≡ false }
+        ensures server { (a : Rules) → HasServerOf a self.now → result ≡ true }
+    {
+        self.is_stopped
+    }
+
+    /// What its server keeps when it stops, or is stopped: what it had at the start, with what was committed since. Linear in the bytes of these transactions, and for
+    /// each change logarithmic in the rows, besides the executed set.
     pub fn into_kept(self) -> Result<KeptServer, Memory>
-        ensures { IfOk result (λ k. (a : Rules) → IsMember a self → KeptFor (stored_by (stored a.life) (Some a)) k) }
+        ensures member { IfOk result (λ k. (a : Rules) → IsMember a self → KeptFor (stored_by (stored a.life) (Some a)) k) }
+        ensures server { IfOk result (λ k. (a : Rules) → HasServerOf a self → KeptFor (stored_by (stored a.life) (Some a)) k) }
     {
         let Member {
-            alloc: _,
-            moment,
-            earlier,
+            alloc,
+            moment: _,
+            ledger,
+            is_stopped: _,
         } = self;
-        let remains = moment.into_remains();
-        earlier.with(remains)
+        ledger.redo(alloc)
     }
 
     /// Which incarnation it is.
@@ -161,6 +182,31 @@ impl Member {
     {
         self.moment.inc()
     }
+}
+
+// A step of a member that isn't stopped. After want of memory its server has what it had.
+fn go_on(
+    alloc: Global,
+    moment: &mut Moment,
+    ledger: &mut Ledger,
+    event: Event,
+) -> Result<StepLeft, Memory>
+    requires { IsEvent event }
+    ensures ok { IfOk result (λ left. (a : Rules) → IsKept (step (event_of event) a) → Stands a.life (cleared a) moment.old → IsServerOf a ledger.old
+        → GoesOn (event_of event) a left moment.new ledger.new) }
+    ensures err { OnErr result ((a : Rules) → IsServerOf a ledger.old → IsServerOf a ledger.new) }
+{
+    steps_are_plain();
+    moment.begin_step();
+    take(moment, event)?;
+    let Left {
+        committed,
+        marks,
+        sent,
+    } = moment.end_step();
+    let sent = in_order(alloc, sent)?;
+    ledger.note(committed)?;
+    Ok(StepLeft { marks, sent })
 }
 
 // A whole step.

@@ -1,14 +1,11 @@
 -- A member whose parts or tables know already how an act ends: one thing more in its history, for all the rest.
-use Rattle.std.proofs.Common.{◌≡◌, ℕ, false, option_to_list, [], ◌∷◌, ◌++◌, map, refl, sym, subst, ap, ◌∙◌}
+use Rattle.std.proofs.Common.{◌≡◌, ℕ, false, option_to_list, [], ◌∷◌, ◌++◌, refl, sym, subst}
 use Rattle.std.proofs.lemmas.List.{append-nil}
 use Rattle.group_rules.specs.declared.answers.Answer.{Answer}
 use Rattle.group_rules.specs.declared.marks.Mark.TheVariants.{Answered as AnsweredMark}
 use Rattle.slot_values.specs.declared.value.Joiner.{Joiner}
 use Rattle.group_rules.specs.Events.{Answered, Did, Ends, Life, Setup, mark_of}
-use Rattle.group_rules.specs.Life.{certs}
 use Rattle.group_rules.specs.Member.{Member, last_answer, push}
-use Rattle.group_rules.specs.Recovery.{given_of}
-use Rattle.group_rules.specs.World.{committed_of}
 use Rattle.member_truth.specs.Growing.{Grows}
 use Rattle.member_truth.specs.Ranged.{IsRangedDid}
 use Rattle.member_parts.specs.declared.parts.MemberParts.{MemberParts}
@@ -20,6 +17,8 @@ use Rattle.member_joining.specs.Joins.{JoinsBy, is_of_joining}
 use Rattle.member_joining.proofs.Joined.{passes as joining_passes}
 use Rattle.member_ranges.specs.Ranges.{InRange, is_of_range}
 use Rattle.member_ranges.proofs.Passed.{passed as said}
+use Rattle.kept_server.specs.Keeping.{left_of}
+use Rattle.kept_server.specs.Redoing.{LeadTo}
 use Rattle.member_moment.specs.declared.moment.Moment.{Moment}
 use Rattle.member_moment.specs.Aside.{AsideFor, ButParts}
 use Rattle.member_moment.specs.Standing.{Marked, RestFor, Stands}
@@ -62,7 +61,7 @@ rest_of base a x r p = record {
 pub record IsQuiet (d : Did) (a : Member) : Type 0 where
   pub own : is_of_own d ≡ false
   pub ranged : IsRangedDid d
-  pub committed : committed_of (d ∷ a.life) (certs (d ∷ a.life)) ≡ committed_of a.life (certs a.life)
+  pub committed : left_of (d ∷ a.life) ≡ left_of a.life
 
 module _ (base : Life) (a : Member) (x y : Moment) (e : y ≡ record x { parts = y.parts; tables = y.tables; marks = y.marks }) where
   pub pushed : (d : Did) → y.marks.items ≡ x.marks.items ++ option_to_list (mark_of d) → IsQuiet d a → InRange (push d a) → JoinsBy (d ∷ a.life) x.joining → AsideFor base a x → AsideFor base (push d a) y
@@ -73,7 +72,7 @@ module _ (base : Life) (a : Member) (x y : Moment) (e : y ≡ record x { parts =
     node = r.node;
     own = own_passes a.me.inc a.life x.own d q.own r.own;
     joining = j;
-    committed = r.committed ∙ ap (map given_of) (sym q.committed);
+    committed = subst (LeadTo (left_of base) x.committed.items) (sym q.committed) r.committed;
     marks = subst (Marked base (d ∷ a.life)) (sym m) (marked base a.life x.marks.items d r.marks);
     sent = r.sent;
     range = g;

@@ -1,5 +1,5 @@
 -- An ask, and its failure.
-use Rattle.std.proofs.Common.{◌≡◌, Bool, true, false, Option, option_to_list, ◌∷◌, ◌++◌, arith, map, refl, sym, subst, ap, ◌∙◌}
+use Rattle.std.proofs.Common.{◌≡◌, Bool, true, false, Option, option_to_list, ◌∷◌, ◌++◌, arith, refl, sym, subst, ap, ◌∙◌}
 use Rattle.std.specs.Prelude.{if◌then◌else◌, is_some}
 use Rattle.std.proofs.lemmas.Bool.{and_parts}
 use Rattle.std.proofs.lemmas.List.{append-nil}
@@ -14,10 +14,9 @@ use Rattle.node_rules.specs.Node.{message}
 use Rattle.donor_recovery.specs.Asking.{Asking}
 use Rattle.group_rules.specs.declared.marks.Reply.TheVariants.{Asked}
 use Rattle.group_rules.specs.Events.{AskFails, Did, Life, Replied, mark_of}
-use Rattle.group_rules.specs.Life.{certs, is_recovering, last_made, state}
+use Rattle.group_rules.specs.Life.{is_recovering, last_made, state}
 use Rattle.group_rules.specs.Member.{Member, push, send}
-use Rattle.group_rules.specs.Recovery.{ask_wire, given_of, is_ask_due, pending_ask, unless_self}
-use Rattle.group_rules.specs.World.{committed_of}
+use Rattle.group_rules.specs.Recovery.{ask_wire, is_ask_due, pending_ask, unless_self}
 use Rattle.local_sessions.specs.Following.{touches}
 use Rattle.member_truth.specs.Ranged.{IsRangedDid}
 use Rattle.member_parts.specs.Standing.{is_of_parts}
@@ -33,6 +32,8 @@ use Rattle.member_ranges.proofs.Passed.{passed as said}
 use Rattle.member_ranges.proofs.Sent.{ask_is}
 use Rattle.member_tables.specs.Standing.{is_of_tables}
 use Rattle.member_tables.proofs.Kept.{stands_on}
+use Rattle.kept_server.specs.Keeping.{left_of}
+use Rattle.kept_server.specs.Redoing.{LeadTo}
 use Rattle.member_moment.specs.declared.moment.Moment.{Moment}
 use Rattle.member_moment.specs.Standing.{Marked, Stands}
 use Rattle.member_moment.specs.Doing.{DoesIf}
@@ -44,7 +45,7 @@ pub record IsOfAsks (d : Did) (a : Member) : Type 0 where
   pub own : is_of_own d ≡ false
   pub range : is_of_range d ≡ false
   pub ranged : IsRangedDid d
-  pub committed : committed_of (d ∷ a.life) (certs (d ∷ a.life)) ≡ committed_of a.life (certs a.life)
+  pub committed : left_of (d ∷ a.life) ≡ left_of a.life
   pub sessions : touches d ≡ false
   pub tables : is_of_tables d ≡ false
   pub made : last_made (d ∷ a.life) ≡ last_made a.life
@@ -61,7 +62,7 @@ joins_on d base a x y e m j i st = let r = st.rest in subst (λ z. Stands base (
     parts = parts_pass a.setup a.me.inc a.life d x.parts i.parts r.parts;
     own = own_passes a.me.inc a.life x.own d i.own r.own;
     joining = j;
-    committed = r.committed ∙ ap (map given_of) (sym i.committed);
+    committed = subst (LeadTo (left_of base) x.committed.items) (sym i.committed) r.committed;
     marks = subst (Marked base (d ∷ a.life)) (sym m) (marked base a.life x.marks.items d r.marks);
     sent = r.sent;
     range = said d a i.range r.range;

@@ -1,7 +1,7 @@
 -- A transaction is committed, but for the answer of its session.
-use Rattle.std.proofs.Common.{◌≡◌, ℕ, Bool, true, false, Option, Some, None, List, [], ◌∷◌, ◌++◌, option_to_list, filter, map, reverse, refl, sym, subst, ap, ◌∙◌, arith, ◌⊎◌, inl, inr}
+use Rattle.std.proofs.Common.{◌≡◌, ℕ, Bool, true, false, Option, Some, None, List, [], ◌∷◌, ◌++◌, option_to_list, filter, reverse, refl, sym, subst, ap, ◌∙◌, arith, ◌⊎◌, inl, inr}
 use Rattle.std.proofs.lemmas.Bool.{false≢true}
-use Rattle.std.proofs.lemmas.List.{append-nil, map-append, reverse-append, reverse-reverse}
+use Rattle.std.proofs.lemmas.List.{append-nil, reverse-append, reverse-reverse}
 use Rattle.std.proofs.lemmas.List.Elements.{filter-append}
 use Rattle.gr_ids.specs.Names.{gtid_eq}
 use Rattle.gr_ids.specs.declared.names.Inc.{Inc}
@@ -17,7 +17,6 @@ use Rattle.group_rules.specs.Commit.{may_commit}
 use Rattle.group_rules.specs.Points.{answer_own, commit_one}
 use Rattle.group_rules.specs.Queue.{pending}
 use Rattle.group_rules.specs.Recovery.{given_of}
-use Rattle.group_rules.specs.World.{committed_of}
 use Rattle.apply_queue.specs.Following.{IsRising}
 use Rattle.apply_queue.specs.declared.work.WorkDone.{WorkDone}
 use Rattle.row_store.proofs.Known.{in_reverse}
@@ -41,6 +40,9 @@ use Rattle.member_tables.specs.declared.tables.MemberTables.{MemberTables}
 use Rattle.member_tables.specs.Committing.{IsNext, IsOf, own_id}
 use Rattle.member_tables.specs.Standing.{TablesFor}
 use Rattle.member_tables.proofs.Nexts.{comes_next}
+use Rattle.kept_server.specs.Keeping.{left_of}
+use Rattle.kept_server.specs.Redoing.{LeadTo, MayCommit, committing}
+use Rattle.kept_server.proofs.Leading.{left_with, may_commit as next_may, one_more}
 use Rattle.member_moment.specs.Doing.{IsKept}
 use Rattle.member_moment.specs.declared.moment.Moment.{Moment}
 use Rattle.member_moment.specs.Committing.{Commits, IsCommitOf}
@@ -106,13 +108,12 @@ module _ (base : Life) (a : Member) (c : Cert) (u : Uncommitted) (d : WorkDone) 
   gives =
       ap (λ (z : Uncommitted). given_as z d.body) w.is_it ∙ ap (λ b. given_as (uncommitted_of c) b) w.body
 
-  all_given : y.committed.items ≡ map given_of (committed_of (Committed c.gtid ∷ a.life) (certs a.life))
+  all_given : LeadTo (left_of base) y.committed.items (left_of (Committed c.gtid ∷ a.life))
   all_given =
-      given
-      ∙ (ap (λ g. x.committed.items ++ g ∷ []) gives
-      ∙ (ap (λ gs. gs ++ given_of c ∷ []) f.others.aside.committed
-      ∙ (sym (map-append given_of (committed_of a.life (certs a.life)) (c ∷ []))
-      ∙ ap (λ cs. map given_of (committed_of a.life (certs a.life) ++ cs)) (sym (only_one a.me.inc a.life c ordered certified)))))
+      let may : MayCommit (left_of a.life) c = next_may a.life c f.others.tables.tables.gtids f.next (ordered.read c certified) in
+      let with : left_of (Committed c.gtid ∷ a.life) ≡ committing (left_of a.life) c = left_with a.life c (only_one a.me.inc a.life c ordered certified) in
+      subst (λ gs. LeadTo (left_of base) gs (left_of (Committed c.gtid ∷ a.life))) (sym (given ∙ ap (λ g. x.committed.items ++ g ∷ []) gives))
+      (subst (LeadTo (left_of base) (x.committed.items ++ given_of c ∷ [])) (sym with) (one_more (left_of base) (left_of a.life) x.committed.items c may f.others.aside.committed))
 
   pub rest_committed : RestFor base (push (Committed c.gtid) a) y
   rest_committed = subst (λ z. RestFor base (push (Committed c.gtid) a) z) (sym same) (record {

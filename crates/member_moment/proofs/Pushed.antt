@@ -1,13 +1,11 @@
 -- One thing more in a history, of which nothing is kept but a mark.
-use Rattle.std.proofs.Common.{◌≡◌, false, Option, Some, None, option_to_list, List, [], ◌∷◌, ◌++◌, map, reverse, refl, sym, subst, ap, ◌∙◌}
+use Rattle.std.proofs.Common.{◌≡◌, false, Option, Some, None, option_to_list, List, [], ◌∷◌, ◌++◌, reverse, refl, sym, subst, ap, ◌∙◌}
 use Rattle.std.proofs.lemmas.List.{append-nil, reverse-append}
 use Rattle.group_rules.specs.declared.marks.Mark.{Mark}
 use Rattle.group_rules.specs.Events.{Did, Life, mark_of, marks_of, with_mark}
 use Rattle.std.proofs.Common.{arith}
-use Rattle.group_rules.specs.Life.{certs, last_made}
+use Rattle.group_rules.specs.Life.{last_made}
 use Rattle.group_rules.specs.Member.{Member, push}
-use Rattle.group_rules.specs.Recovery.{given_of}
-use Rattle.group_rules.specs.World.{committed_of}
 use Rattle.local_sessions.specs.Following.{touches}
 use Rattle.member_truth.specs.Ranged.{IsRangedDid}
 use Rattle.member_parts.specs.Standing.{is_of_parts}
@@ -20,6 +18,8 @@ use Rattle.member_joining.specs.Joins.{is_of_joining}
 use Rattle.member_joining.proofs.Joined.{passes as joining_passes}
 use Rattle.member_ranges.specs.Ranges.{is_of_range}
 use Rattle.member_ranges.proofs.Passed.{passed as said}
+use Rattle.kept_server.specs.Keeping.{left_of}
+use Rattle.kept_server.specs.Redoing.{LeadTo}
 use Rattle.member_moment.specs.declared.moment.Moment.{Moment}
 use Rattle.member_moment.specs.Standing.{Marked, RestFor}
 use Rattle.member_moment.specs.Doing.{Does}
@@ -59,7 +59,7 @@ pub record IsSaid (d : Did) (a : Member) : Type 0 where
   pub joining : is_of_joining d ≡ false
   pub range : is_of_range d ≡ false
   pub ranged : IsRangedDid d
-  pub committed : committed_of (d ∷ a.life) (certs (d ∷ a.life)) ≡ committed_of a.life (certs a.life)
+  pub committed : left_of (d ∷ a.life) ≡ left_of a.life
 
 module _ (base : Life) (a : Member) (x : Moment) (d : Did) where
   -- all but the tables
@@ -72,7 +72,7 @@ module _ (base : Life) (a : Member) (x : Moment) (d : Did) where
     parts = parts_pass a.setup a.me.inc a.life d x.parts s.parts r.parts;
     own = own_passes a.me.inc a.life x.own d s.own r.own;
     joining = joining_passes a.life d x.joining s.joining r.joining;
-    committed = r.committed ∙ ap (map given_of) (sym s.committed);
+    committed = subst (LeadTo (left_of base) x.committed.items) (sym s.committed) r.committed;
     marks = subst (Marked base (d ∷ a.life)) (sym m) (marked base a.life x.marks.items d r.marks);
     sent = r.sent;
     range = said d a s.range r.range;

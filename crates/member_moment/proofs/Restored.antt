@@ -1,5 +1,5 @@
 -- A Give is taken up, if it is awaited and possible, and the joiner has nothing that the group hasn't.
-use Rattle.std.proofs.Common.{◌≡◌, ℕ, Bool, true, false, ◌&&◌, Option, Some, List, [], ◌∷◌, length, map, refl, sym, subst, ap, ◌∙◌}
+use Rattle.std.proofs.Common.{◌≡◌, ℕ, Bool, true, false, ◌&&◌, Option, Some, List, [], ◌∷◌, ◌++◌, length, map, refl, sym, subst, ap, ◌∙◌}
 use Rattle.std.specs.Prelude.{is_some, ◌==◌}
 use Rattle.std.specs.List.{All}
 use Rattle.std.proofs.lemmas.Bool.{and_parts, false≢true}
@@ -18,9 +18,9 @@ use Rattle.paxos_forms.specs.declared.welcome.Welcome.{Welcome}
 use Rattle.apply_queue.specs.Works.{changes_of}
 use Rattle.group_rules.specs.declared.marks.Cause.TheVariants.{Extra}
 use Rattle.group_rules.specs.Events.{Cert, Gave, Life, Restores}
-use Rattle.group_rules.specs.Life.{certs, entered, executed, has_give, is_error, is_recovering, state, taken}
+use Rattle.group_rules.specs.Life.{certs, entered, executed, has_give, is_error, is_recovering, state, stored, taken}
 use Rattle.group_rules.specs.Member.{Member, fall, push}
-use Rattle.group_rules.specs.Recovery.{add_place, certs_given, given_of, hear_give, is_awaited, is_possible, restore, take_give}
+use Rattle.group_rules.specs.Recovery.{add_place, certs_given, hear_give, is_awaited, is_possible, restore, take_give}
 use Rattle.donor_recovery.specs.Asking.{begin_of}
 use Rattle.donor_recovery.specs.Donating.{HasNumber}
 use Rattle.donor_recovery.specs.declared.at_add.Begin.{Begin}
@@ -42,6 +42,8 @@ use Rattle.member_tables.proofs.Read.{restored as tables_restored}
 use Rattle.member_truth.specs.Growing.{Grows}
 use Rattle.member_truth.specs.Truth.{IsTrueGive}
 use Rattle.member_truth.proofs.Grown.{falls, promised, pushes}
+use Rattle.kept_server.specs.Keeping.{left_of}
+use Rattle.kept_server.specs.Redoing.{LeadTo}
 use Rattle.member_moment.specs.declared.moment.Moment.{Moment}
 use Rattle.member_moment.specs.Doing.{Does, DoesIf, IsKept}
 use Rattle.member_moment.specs.Joining.{Awaits, IsTakeable, Restored, takes_up, waiting_of}
@@ -128,7 +130,10 @@ module _ (g : Give) (base : Life) (a : Member) (x : Moment) (w : Awaits g a) (st
           parts = subst (λ (m : Inc). StandsFor a.setup m (Restores g (certs_given g.txns) ∷ a.life) z.parts) me parts;
           own = own_passes a.me.inc a.life x.own (Restores g (certs_given g.txns)) refl q.own;
           joining = restores a.life g (certs_given g.txns) x.joining q.joining w.recovering w.pending;
-          committed = q.committed ∙ ap (map given_of) (waiting.3.uncommitted (certs a.life) ∙ sym (waiting.3.uncommitted (certs (Restores g (certs_given g.txns) ∷ a.life))));
+          committed =
+              subst (LeadTo (left_of base) x.committed.items)
+              (ap (λ cs. record (left_of a.life) { committed = (stored a.life).committed ++ cs }) (waiting.3.uncommitted (certs a.life) ∙ sym (waiting.3.uncommitted (certs (Restores g (certs_given g.txns) ∷ a.life)))))
+              q.committed;
           marks = unmarked base a.life x.marks.items (Restores g (certs_given g.txns)) refl q.marks;
           sent = q.sent;
           range = in_range g (certs_given g.txns) a i.give w.place refl w.recovering without q.range;

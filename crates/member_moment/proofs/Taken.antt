@@ -1,5 +1,5 @@
 -- A slot that is taken, by the node and then by the member.
-use Rattle.std.proofs.Common.{◌≡◌, ℕ, suc, ◌<◌, ◌^◌, Bool, false, Option, Some, None, [], ◌∷◌, ◌++◌, option_to_list, map, refl, sym, subst, ap, ◌∙◌, arith}
+use Rattle.std.proofs.Common.{◌≡◌, ℕ, suc, ◌<◌, ◌^◌, Bool, false, Option, Some, None, [], ◌∷◌, ◌++◌, option_to_list, refl, sym, subst, ap, ◌∙◌, arith}
 use Rattle.std.proofs.lemmas.List.{append-nil}
 use Rattle.std.specs.Prelude.{◌&&◌}
 use Rattle.gr_ids.specs.Names.{inc_eq}
@@ -20,12 +20,11 @@ use Rattle.group_rules.specs.declared.marks.Effect.{Effect}
 use Rattle.group_rules.specs.declared.marks.Effect.TheVariants.{Positive, Conflict, Plain, Void, Unread}
 use Rattle.group_rules.specs.declared.marks.Mark.TheVariants.{Skipped as SkippedMark, Took as TookMark}
 use Rattle.group_rules.specs.Events.{Entry, Life, Setup, Skips, Took}
-use Rattle.group_rules.specs.Life.{cert_of, certs, executed, has_give, is_arrival, is_error, state, taken, view}
+use Rattle.group_rules.specs.Life.{cert_of, certs, executed, has_give, is_arrival, is_error, state, stored, taken, view}
 use Rattle.group_rules.specs.View.{View}
 use Rattle.group_rules.specs.Member.{Member, by_node, push}
 use Rattle.group_rules.specs.Parts.{open_parts}
 use Rattle.group_rules.specs.Queue.{is_done}
-use Rattle.group_rules.specs.Recovery.{given_of}
 use Rattle.group_rules.specs.Taking.{entry_of, take_kept, take_slot}
 use Rattle.list_state.specs.Holding.{HasNumber, IsEntered}
 use Rattle.list_state.specs.declared.entered.Entered.{Entered}
@@ -47,6 +46,8 @@ use Rattle.member_tables.proofs.Kept.{stands_on}
 use Rattle.member_joining.proofs.Joined.{passes as joining_passes}
 use Rattle.member_parts.proofs.Passed.{passes as parts_pass}
 use Rattle.member_own.proofs.Kept.{passes as own_passes}
+use Rattle.kept_server.specs.Keeping.{left_of}
+use Rattle.kept_server.specs.Redoing.{LeadTo}
 use Rattle.member_moment.specs.declared.moment.Moment.{Moment}
 use Rattle.member_moment.specs.declared.taking.Caused.TheVariants.{Nothing}
 use Rattle.member_moment.specs.Doing.{IsKept}
@@ -227,7 +228,10 @@ module _ (base : Life) (a : Member) (t : Taken) (x : Moment) (k : HasPassed t ba
         parts = parts_now u;
         own = own_now;
         joining = joining_takes a.life entry x.joining (rest).joining k.ready;
-        committed = (rest).committed ∙ ap (map given_of) (sym (committed_before a.setup a.life (cert_of entry) (certs a.life) (rest).range.life (λ c i. (u.certified c i).unexecuted)));
+        committed =
+            subst (LeadTo (left_of base) x.committed.items)
+            (sym (ap (λ cs. record (left_of a.life) { committed = (stored a.life).committed ++ cs }) (committed_before a.setup a.life (cert_of entry) (certs a.life) (rest).range.life (λ c i. (u.certified c i).unexecuted))))
+            (rest).committed;
         marks = marks_now;
         sent = sent;
         range = in_range;

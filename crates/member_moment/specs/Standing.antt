@@ -1,20 +1,19 @@
 -- What a member keeps in the midst of a step, and how that stands for a member of the rules.
-use Rattle.std.specs.Prelude.{◌≡◌, ◌++◌, List, map, reverse}
+use Rattle.std.specs.Prelude.{◌≡◌, ◌++◌, List, reverse}
 use Rattle.node_rules.specs.Lists.{In}
 use Rattle.paxos_forms.specs.declared.message.Message.{Message}
 use Rattle.paxos_forms.specs.Messages.{IsMessage}
 use Rattle.member_ranges.specs.Ranges.{InRange}
 use Rattle.group_rules.specs.declared.marks.Mark.{Mark}
 use Rattle.group_rules.specs.Events.{Life, marks_of}
-use Rattle.group_rules.specs.Life.{certs}
 use Rattle.group_rules.specs.Member.{Member}
-use Rattle.group_rules.specs.Recovery.{given_of}
-use Rattle.group_rules.specs.World.{committed_of}
 use Rattle.member_truth.specs.Ranged.{IsRanged}
 use Rattle.member_parts.specs.Standing.{StandsFor}
 use Rattle.member_tables.specs.Standing.{TablesFor}
 use Rattle.member_own.specs.Keeping.{Keeps}
 use Rattle.member_joining.specs.Joins.{JoinsBy}
+use Rattle.kept_server.specs.Keeping.{left_of}
+use Rattle.kept_server.specs.Redoing.{LeadTo}
 use Rattle.member_moment.specs.declared.moment.Moment.{Moment}
 
 -- the marks of what happened since this history, oldest first
@@ -27,7 +26,8 @@ pub record Marked (base l : Life) (ms : List Mark) : Type 0 where
 abbrev pub AreMessages : List Message → Type 0
 AreMessages ms = (m : Message) → In m ms → IsMessage m
 
--- All but the tables: who it is, its node, its parts, what it has committed, and what this step has marked and sent. `base` is the history before the step.
+-- All but the tables: who it is, its node, its parts, and what this step has committed, marked and sent. `base` is the history before the step: the commits lead from what it left
+-- stored to what is stored now.
 pub record RestFor (base : Life) (a : Member) (x : Moment) : Type 0 where
   pub me : x.me ≡ a.me
   pub contact : x.contact ≡ a.contact
@@ -36,7 +36,7 @@ pub record RestFor (base : Life) (a : Member) (x : Moment) : Type 0 where
   pub parts : StandsFor a.setup a.me.inc a.life x.parts
   pub own : Keeps a.me.inc a.life x.own
   pub joining : JoinsBy a.life x.joining
-  pub committed : x.committed.items ≡ map given_of (committed_of a.life (certs a.life))
+  pub committed : LeadTo (left_of base) x.committed.items (left_of a.life)
   pub marks : Marked base a.life x.marks.items
   pub sent : x.sent.items ≡ a.sent
   pub range : InRange a

@@ -1,27 +1,23 @@
-// How a member begins, and what is left when it stops.
+// How a member begins.
 ghost use Rattle.std.specs.Prelude.{◌≡◌, IfOk, map};
 ghost use Rattle.gr_ids.specs.declared.memory.Memory.{Memory};
 ghost use Rattle.name_forms.specs.Incs.{IsInc};
 ghost use Rattle.slot_values.specs.Joiners.{IsJoiner};
 ghost use Rattle.node_rules.specs.Lists.{In};
-ghost use Rattle.group_rules.specs.Events.{Life, Setup, Stored};
-ghost use Rattle.group_rules.specs.Member.{Member};
+ghost use Rattle.group_rules.specs.Events.{Setup, Stored};
 ghost use Rattle.group_rules.specs.Steps.{found, start};
 ghost use Rattle.member_ranges.specs.Ranges.{IsFounding, setup_with};
-ghost use Rattle.row_store.specs.Following.{HasPlaces};
-ghost use Rattle.kept_server.specs.Keeping.{IsStored, Leaves};
+ghost use Rattle.kept_server.specs.Keeping.{IsStored};
 ghost use Rattle.member_moment.specs.Founding.{HasBegun, add_message};
-ghost use Rattle.member_moment.specs.Standing.{Stands};
 
 use crate::keepable::are_keepable;
 use crate::moment::Moment;
 use gr_ids::{Inc, Limits, Memory, Mode, ValueId};
 use gtid_sets::GtidSet;
-use kept_server::Remains;
 use member_joining::Joining;
 use member_own::Own;
 use member_parts::MemberParts;
-use member_tables::{KeptRows, MemberTables};
+use member_tables::MemberTables;
 use paxos_forms::{Given, Message, Wire};
 use paxos_node::Node;
 use row_store::Store;
@@ -103,32 +99,6 @@ impl Moment {
             marks: Vec::new(alloc),
             sent,
         })
-    }
-
-    /// What is left of it when it stops; takes no memory.
-    pub fn into_remains(self) -> Remains
-        ensures { (base : Life) (a : Member) → HasPlaces a.life → Stands base a self → Leaves a.life result }
-    {
-        let Moment {
-            alloc: _,
-            me: _,
-            contact: _,
-            limits: _,
-            node: _,
-            parts: _,
-            tables,
-            own: _,
-            joining: _,
-            committed,
-            marks: _,
-            sent: _,
-        } = self;
-        let KeptRows { store, executed } = tables.into_kept();
-        Remains {
-            executed,
-            store,
-            committed,
-        }
     }
 }
 

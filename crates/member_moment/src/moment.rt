@@ -3,6 +3,8 @@ ghost use Rattle.std.specs.Prelude.{◌≡◌, [], IfOk};
 ghost use Rattle.group_rules.specs.Events.{Life};
 ghost use Rattle.group_rules.specs.Life.{executed as executed_by, state as state_of, view as view_of};
 ghost use Rattle.group_rules.specs.Member.{Member as AnyMember, next_id as next_of};
+ghost use Rattle.kept_server.specs.Keeping.{left_of};
+ghost use Rattle.kept_server.specs.Redoing.{LeadTo};
 ghost use Rattle.member_moment.specs.Standing.{Marked, Stands};
 
 use gr_ids::{Inc, Limits, MemberState, Memory, ValueId};
@@ -18,8 +20,8 @@ use slot_values::Joiner;
 use std::alloc::Global;
 use std::mem;
 
-/// A member in the midst of a step: its node, its parts, the transactions that it has committed, in this order, and the marks and messages of
-/// the step so far.
+/// A member in the midst of a step: its node, its parts, and the transactions that it has committed, the marks and the messages of the step so far,
+/// each in their order.
 #[derive(Drop)]
 pub struct Moment {
     pub(crate) alloc: Global,
@@ -37,9 +39,10 @@ pub struct Moment {
     pub(crate) sent: Vec<Message>,
 }
 
-/// What a step has left: its marks in order, and the messages that it sends.
+/// What a step has left: the transactions that it committed and its marks, in order, and the messages that it sends.
 #[derive(Drop)]
 pub struct Left {
+    pub committed: Vec<Given>,
     pub marks: Vec<Mark>,
     pub sent: Vec<Message>,
 }
@@ -104,6 +107,7 @@ impl Moment {
     pub fn begin_step(&mut self)
         ensures { (base : Life) (a : AnyMember) → Stands base a self.old → Stands a.life (record a { sent = [] }) self.new }
     {
+        self.committed = Vec::new(self.alloc);
         self.marks = Vec::new(self.alloc);
         self.sent = Vec::new(self.alloc);
     }
@@ -111,10 +115,16 @@ impl Moment {
     /// A step ends: what it has left is handed out.
     pub fn end_step(&mut self) -> Left
         ensures left { (base : Life) (a : AnyMember) → Stands base a self.old → Marked base a.life result.marks.items × (result.sent.items ≡ a.sent) }
+        ensures committed { (base : Life) (a : AnyMember) → Stands base a self.old → LeadTo (left_of base) result.committed.items (left_of a.life) }
         ensures stands { (base : Life) (a : AnyMember) → Stands base a self.old → Stands a.life (record a { sent = [] }) self.new }
     {
+        let committed = mem::replace(&mut self.committed, Vec::new(self.alloc));
         let marks = mem::replace(&mut self.marks, Vec::new(self.alloc));
         let sent = mem::replace(&mut self.sent, Vec::new(self.alloc));
-        Left { marks, sent }
+        Left {
+            committed,
+            marks,
+            sent,
+        }
     }
 }

@@ -1,3 +1,4 @@
+pub mod Copies
 pub mod Versions
 pub mod ChainReads
 pub mod Folds

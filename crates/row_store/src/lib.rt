@@ -2,6 +2,7 @@
 #![tactic(auto)]
 
 mod chains;
+mod copying;
 mod fault;
 mod laws;
 mod presence;

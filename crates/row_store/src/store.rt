@@ -8,6 +8,7 @@ ghost use Rattle.group_rules.specs.Rows.{changed_row, fits};
 ghost use Rattle.row_store.specs.Chains.{IsApplied, fault_of, has_room, item_of, row_at, row_listed, row_now, row_own, rows_of, versions_of};
 
 use crate::chains::{make_room, put_all};
+use crate::copying::copy_chains;
 use crate::fault::RowFault;
 use crate::presence::is_there_after;
 use crate::rows::rows_of_chains;
@@ -103,5 +104,13 @@ impl Store {
         ensures listed { IfOk result (λ rows. (i : AnyItem) → row_listed rows i ≡ row_now self.now i) }
     {
         Ok(Sequence::from_vec(rows_of_chains(alloc, &self.chains)?))
+    }
+
+    /// A copy: the same versions of each item. Logarithmic in the items for each item, and linear in the bytes of all versions.
+    pub fn try_copy(&self, alloc: Global) -> Result<Store, Memory>
+        ensures { IfOk result (λ copy. (i : AnyItem) → versions_of copy i ≡ versions_of self.now i) }
+    {
+        let chains = copy_chains(alloc, &self.chains)?;
+        Ok(Store { chains, alloc })
     }
 }

@@ -101,6 +101,12 @@ fn a_set_sees_what_its_transactions_left(rt: HostRuntime) -> Result<(), Fail> {
         assert!(rt; is(store.get_at(&b, &view), of_b));
         assert!(rt; store.get_at(&c, &view).is_none());
     }
+    let copy = store.try_copy(alloc)?;
+    for (numbers, of_a, of_b) in rows.iter() {
+        let view = set(alloc, numbers)?;
+        assert!(rt; is(copy.get_at(&a, &view), of_a));
+        assert!(rt; is(copy.get_at(&b, &view), of_b));
+    }
     assert!(rt; is(store.get(&a), b"3"));
     assert!(rt; is(store.get(&b), b"4"));
     assert!(rt; store.get(&c).is_none());

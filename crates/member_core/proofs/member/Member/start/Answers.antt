@@ -11,6 +11,7 @@ pub returns : goal.returns
 returns c = λ y k.
     (let s = setup_with c.args.limits c.args.mode c.args.founders.now in
     let a = start s c.args.me y c.args.contact in
-    let kept = subst (λ gs. IsStored y c.args.kept.executed c.args.kept.store gs) (sym c.as_slice.ensures.value) k.stored in
+    let copied = c.in_ok-tables.ensures y k in
+    let kept = subst (λ gs. IsStored y c.in_ok-tables.tables.executed c.in_ok-tables.tables.store gs) (sym c.as_slice.ensures.value) copied in
     let st = c.in_ok-moment.ensures s y c.requires.founding refl kept in
-    started s c.args.me y c.args.contact _ _ refl (c.end_step-sent.ensures.stands a.life a st) k.earlier k.stored.places (c.in_ok-sent.ensures ∙ ap (λ ms. map spelt (arranged ms)) (c.end_step-sent.ensures.left a.life a st).1) st.rest.sent_range)
+    started s c.args.me y c.args.contact _ _ refl (c.end_step-sent.ensures.stands a.life a st) (c.new.ensures y k) refl (c.in_ok-sent.ensures ∙ ap (λ ms. map spelt (arranged ms)) (c.end_step-sent.ensures.left a.life a st).1) st.rest.sent_range)

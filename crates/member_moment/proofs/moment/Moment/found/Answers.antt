@@ -1,6 +1,5 @@
 -- A founder's parts are those of the founding.
-use Rattle.std.proofs.Common.{refl, sym, ap, ◌∙◌}
-use Rattle.gr_ids.specs.declared.names.Inc.{Inc}
+use Rattle.std.proofs.Common.{refl, ap, ◌∙◌}
 use Rattle.node_rules.specs.Node.{founder}
 use Rattle.group_rules.specs.View.{View}
 use Rattle.member_ranges.specs.Ranges.{setup_with}

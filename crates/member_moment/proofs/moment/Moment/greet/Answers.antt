@@ -1,5 +1,5 @@
 -- It is welcomed by those that are ONLINE.
-use Rattle.std.proofs.Common.{true, false, sym, subst, ap, ◌∙◌}
+use Rattle.std.proofs.Common.{sym, subst, ◌∙◌}
 use Rattle.std.proofs.lemmas.Result.{on_ok_weaker}
 use Rattle.member_moment.specs.Giving.{IsGreeting}
 use Rattle.member_moment.proofs.Greeted.{greets_down, greets_itself, greets_nobody, greets_so}

@@ -1,5 +1,5 @@
 -- What is given is sent.
-use Rattle.std.proofs.Common.{Some, sym, subst, ap, ◌∙◌}
+use Rattle.std.proofs.Common.{subst, ◌∙◌}
 use Rattle.std.specs.Prelude.{IfSome}
 use Rattle.std.proofs.lemmas.Result.{on_ok_weaker}
 use Rattle.member_moment.specs.Giving.{IsShort}

@@ -1,6 +1,5 @@
 -- The log and the view are those of the member.
-use Rattle.std.proofs.Common.{◌≡◌, ◌≤◌, length, arith, sym, subst, ap, ◌∙◌}
-use Rattle.slot_values.specs.Spelling.{last_u32}
+use Rattle.std.proofs.Common.{length, arith, ap, ◌∙◌}
 use Rattle.member_moment.proofs.Greeted.{greeting_is}
 use Rattle.member_moment.proofs.moment.Moment.welcome.Goals as goal
 
