@@ -13,6 +13,5 @@ pub mod Beginning
 pub mod Fallen
 pub mod Called
 pub mod Asked
-pub mod Servers
 pub mod Sent
 pub mod Active

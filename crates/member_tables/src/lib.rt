@@ -5,7 +5,6 @@ mod begins;
 mod calls;
 mod commits;
 mod entries;
-mod keeping;
 mod laws;
 mod leaving;
 mod places;
@@ -13,6 +12,5 @@ mod tables;
 #[cfg(test)]
 mod tests;
 
-pub use keeping::KeptRows;
 pub use laws::{tables_stand_for_their_member, what_waits_may_come_next};
 pub use tables::MemberTables;

@@ -2,9 +2,7 @@ ghost use Rattle.std.specs.Prelude.{◌≡◌, ◌≤◌, IfOk, length};
 ghost use Rattle.key_items.specs.Spelling.{IsItem};
 
 use crate::MemberTables;
-use gr_ids::{
-    Blob, Gtid, Inc, Level, MemberState, Memory, Mode, Pos, Sequence, SessionId, ValueId,
-};
+use gr_ids::{Blob, Gtid, Inc, Level, Memory, Mode, Pos, Sequence, SessionId, ValueId};
 use group_rules::Answer;
 use key_items::{Change, ChangeKind, Item, WriteSet};
 use local_sessions::CommitStep;
@@ -99,22 +97,14 @@ fn finish(alloc: Global, tables: &mut MemberTables) -> Result<(), Memory> {
     tables.done(Pos(2), gtid(2), &items)
 }
 
-// The commit of an own transaction is answered.
+// The commit of an own transaction is answered, and what it wrote is read.
 fn commit(rt: &impl Abort, alloc: Global, tables: &mut MemberTables) -> Result<(), Fail> {
     open(rt, tables, 1)?;
     ask(rt, alloc, tables)?;
     let told = tables.commit(Pos(1), gtid(1), Some(id(1)), write(alloc, b"1")?)?;
     assert!(rt; matches!(told, Some(_)));
-    Ok(())
-}
-
-// A joiner with the rows of its server reads them.
-fn join(rt: &impl Abort, alloc: Global, next: &mut MemberTables) -> Result<(), Fail> {
-    next.entered(Mode::Single, Some(ME));
-    next.stated(MemberState::Recovering);
-    next.taken(Mode::Multi, None);
-    open(rt, next, 1)?;
-    assert_eq!(rt; row(rt, alloc, next, 1)?, 1);
+    open(rt, tables, 1)?;
+    assert_eq!(rt; row(rt, alloc, tables, 1)?, 1);
     Ok(())
 }
 
@@ -144,13 +134,10 @@ fn tell(rt: &impl Abort, alloc: Global, tables: &mut MemberTables) -> Result<(),
 }
 
 #[test]
-fn a_commit_is_answered_and_kept(rt: HostRuntime) -> Result<(), Fail> {
+fn a_commit_is_answered_and_read(rt: HostRuntime) -> Result<(), Fail> {
     let alloc = rt.alloc();
     let mut tables = MemberTables::founded(alloc, ME, Mode::Multi, None);
-    commit(&rt, alloc, &mut tables)?;
-    let kept = tables.into_kept();
-    let mut next = MemberTables::joining(alloc, ME, kept.store, kept.executed);
-    join(&rt, alloc, &mut next)
+    commit(&rt, alloc, &mut tables)
 }
 
 #[test]
