@@ -7,8 +7,6 @@ mod laws;
 mod mark;
 mod queue;
 mod scan;
-#[cfg(test)]
-mod tests;
 mod work;
 
 pub use fault::QueueFault;

@@ -7,8 +7,6 @@ mod faults;
 mod lists;
 mod numbers;
 mod packer;
-#[cfg(test)]
-mod tests;
 mod unread;
 
 pub use counted::{put_counted, take_counted};

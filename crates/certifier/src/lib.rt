@@ -18,8 +18,6 @@ mod forgetting;
 mod kept;
 mod noting;
 mod numbers;
-#[cfg(test)]
-mod tests;
 mod verdict;
 mod writer;
 mod writing;

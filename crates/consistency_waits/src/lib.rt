@@ -6,8 +6,6 @@ mod conditions;
 mod held;
 mod laws;
 mod placing;
-#[cfg(test)]
-mod tests;
 mod waits;
 
 pub use calling::{AtCall, conditions_now};

@@ -20,8 +20,6 @@ mod at_add;
 mod copying;
 mod donor;
 mod recovery;
-#[cfg(test)]
-mod tests;
 
 pub use at_add::{AtAdd, Begin};
 pub use donor::{Donor, GiveFault};

@@ -11,8 +11,6 @@ ghost use Rattle.failure_events.specs.Watching.{Watches, Watching, capped, first
 
 mod counting;
 mod following;
-#[cfg(test)]
-mod tests;
 mod watch;
 
 pub use watch::Watch;

@@ -14,8 +14,6 @@ mod scanner;
 mod search;
 mod set;
 mod taking;
-#[cfg(test)]
-mod tests;
 mod text;
 mod told;
 mod union;

@@ -7,8 +7,6 @@ mod floors;
 mod item;
 mod laws;
 mod spelling;
-#[cfg(test)]
-mod tests;
 mod write_set;
 
 pub use change::{Change, ChangeKind};

@@ -21,8 +21,6 @@ mod holding;
 mod joining;
 mod state;
 mod taking;
-#[cfg(test)]
-mod tests;
 
 pub use entered::Entered;
 pub use held::Held;

@@ -18,8 +18,6 @@ mod sessions;
 mod sizes;
 mod statements;
 mod tables;
-#[cfg(test)]
-mod tests;
 mod told;
 mod writing;
 

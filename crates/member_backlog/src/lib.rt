@@ -13,8 +13,6 @@ ghost use Rattle.member_backlog.specs.Standing.{Waits, is_of_backlog, uncommitte
 ghost use Rattle.member_backlog.specs.Waiting.{Uncommitted as AnyUncommitted, is_clear, pending_of, with_certified, without, without_committed};
 
 mod backlog;
-#[cfg(test)]
-mod tests;
 mod uncommitted;
 
 pub use backlog::Backlog;

@@ -5,8 +5,6 @@ mod given_txn;
 mod joining;
 mod laws;
 mod reading;
-#[cfg(test)]
-mod tests;
 
 pub use given_txn::GivenTxn;
 pub use joining::Joining;

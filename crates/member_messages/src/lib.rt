@@ -4,8 +4,6 @@
 mod arranging;
 mod cutting;
 mod outgoing;
-#[cfg(test)]
-mod tests;
 mod welcoming;
 
 pub use arranging::arrange;

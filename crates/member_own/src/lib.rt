@@ -10,8 +10,6 @@ ghost use Rattle.group_rules.specs.Life.{is_arrival};
 ghost use Rattle.member_own.specs.Keeping.{Keeps, Kept, is_of_own, is_own_arrival, nothing_kept, with_place, with_tick, with_value};
 
 mod own;
-#[cfg(test)]
-mod tests;
 
 pub use own::Own;
 

@@ -14,8 +14,6 @@ mod own;
 mod parts;
 mod reading;
 mod remotes;
-#[cfg(test)]
-mod tests;
 
 pub use laws::{parts_stand_on, timeouts_are_answered_one_by_one};
 pub use parts::MemberParts;

@@ -9,8 +9,6 @@ mod laws;
 mod leaving;
 mod places;
 mod tables;
-#[cfg(test)]
-mod tests;
 
 pub use laws::{tables_stand_for_their_member, what_waits_may_come_next};
 pub use tables::MemberTables;

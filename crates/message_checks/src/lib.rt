@@ -8,8 +8,6 @@ mod incs;
 mod kept;
 mod messages;
 mod names;
-#[cfg(test)]
-mod tests;
 mod values;
 mod welcomes;
 

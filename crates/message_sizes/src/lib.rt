@@ -4,8 +4,6 @@
 mod forms;
 mod sizes;
 mod sums;
-#[cfg(test)]
-mod tests;
 
 pub use sizes::message_size;
 pub use sums::sum;

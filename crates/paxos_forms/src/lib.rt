@@ -12,8 +12,6 @@ mod laws;
 mod members;
 mod message;
 mod recovery;
-#[cfg(test)]
-mod tests;
 mod told_sets;
 mod welcome;
 mod welcomes;

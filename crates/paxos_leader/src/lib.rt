@@ -7,8 +7,6 @@ mod incs;
 mod leader;
 mod missing;
 mod promise;
-#[cfg(test)]
-mod tests;
 
 pub use incs::{has_inc, put_inc, put_incs};
 pub use leader::{Leader, Proposed};

@@ -10,8 +10,6 @@ mod proposing;
 mod sending;
 mod step;
 mod taking;
-#[cfg(test)]
-mod tests;
 mod ticking;
 mod told;
 mod turns;

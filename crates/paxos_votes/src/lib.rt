@@ -4,8 +4,6 @@
 mod acceptor;
 mod learner;
 mod slot_maps;
-#[cfg(test)]
-mod tests;
 
 pub use acceptor::{Acceptor, Voted};
 pub use learner::{KnownSlot, Learner};

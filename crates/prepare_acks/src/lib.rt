@@ -3,8 +3,6 @@
 
 mod acks;
 mod laws;
-#[cfg(test)]
-mod tests;
 
 pub use acks::Acks;
 pub use laws::{

@@ -2,8 +2,6 @@
 #![tactic(auto)]
 
 mod election;
-#[cfg(test)]
-mod tests;
 mod versions;
 mod weights;
 

@@ -13,8 +13,6 @@ mod said;
 mod shown;
 mod shown_lines;
 mod summary;
-#[cfg(test)]
-mod tests;
 mod worded;
 mod world_report;
 

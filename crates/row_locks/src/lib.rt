@@ -11,8 +11,6 @@ mod done;
 mod fault;
 mod keys;
 mod locks;
-#[cfg(test)]
-mod tests;
 
 pub use done::DonePlace;
 pub use fault::LockFault;

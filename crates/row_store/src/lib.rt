@@ -8,8 +8,6 @@ mod laws;
 mod presence;
 mod rows;
 mod store;
-#[cfg(test)]
-mod tests;
 mod version;
 
 pub use fault::RowFault;

@@ -42,8 +42,6 @@ mod scene;
 mod scenes;
 mod servers;
 mod sessions;
-#[cfg(test)]
-mod tests;
 mod words;
 
 pub use grammar::parse_line;

@@ -7,8 +7,6 @@ mod laws;
 mod member;
 mod reading;
 mod spelling;
-#[cfg(test)]
-mod tests;
 mod turns;
 mod turns_at;
 mod value;

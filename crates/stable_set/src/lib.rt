@@ -1,8 +1,6 @@
 //! The sets that members have told, and the stable set: what all ONLINE members have told to have executed.
 #![tactic(auto)]
 
-#[cfg(test)]
-mod tests;
 mod told;
 
 pub use told::Told;

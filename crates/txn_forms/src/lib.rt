@@ -12,8 +12,6 @@ mod laws;
 mod news;
 mod parts;
 mod places;
-#[cfg(test)]
-mod tests;
 mod txns;
 
 pub use body::{Body, ModeChange, Part, Txn};

@@ -4,8 +4,6 @@
 mod changing;
 mod seats;
 mod settling;
-#[cfg(test)]
-mod tests;
 mod view;
 mod view_at;
 

@@ -11,8 +11,6 @@ ghost use Rattle.world_servers.specs.Naming.{AreOf, founders_in, is_group_taken_
 mod defaults;
 mod founding;
 mod servers;
-#[cfg(test)]
-mod tests;
 
 pub use servers::{DeclaredServer, Servers};
 

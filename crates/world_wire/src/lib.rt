@@ -7,8 +7,6 @@ mod lane;
 mod lanes;
 mod letter;
 mod letters;
-#[cfg(test)]
-mod tests;
 mod wire;
 
 pub use fault::WireFault;

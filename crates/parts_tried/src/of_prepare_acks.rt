@@ -1,0 +1,33 @@
+use gr_ids::{Gtid, Inc};
+use prepare_acks::Acks;
+use std::test::Fail;
+
+fn first_start(server: u8) -> Inc {
+    Inc { server, start: 1 }
+}
+
+fn gtid(number: u64) -> Gtid {
+    Gtid {
+        source: [7; 16],
+        number,
+    }
+}
+
+#[test]
+fn a_transaction_is_complete_once_nobody_is_awaited(rt: HostRuntime) -> Result<(), Fail> {
+    let alloc = rt.alloc();
+    let online = [first_start(1), first_start(2), first_start(3)];
+    let mut acks = Acks::new(alloc);
+    assert!(rt; acks.complete(gtid(1)));
+    acks.require(alloc, gtid(1), first_start(1), &online)?;
+    acks.require(alloc, gtid(2), first_start(2), &online)?;
+    assert!(rt; !acks.complete(gtid(1)));
+    acks.prepared(gtid(1), first_start(2));
+    acks.prepared(gtid(3), first_start(3));
+    assert!(rt; !acks.complete(gtid(1)) && !acks.complete(gtid(2)));
+    acks.left(first_start(3));
+    assert!(rt; acks.complete(gtid(1)) && !acks.complete(gtid(2)));
+    acks.prepared(gtid(2), first_start(1));
+    assert!(rt; acks.complete(gtid(2)));
+    Ok(())
+}
