@@ -53,6 +53,8 @@ def told(lines, texts):
     for text in texts:
         number, *mark = text.split(" ")
         words = lines[int(number) - 1].split()
+        if mark[0] in ("ok", "refused"):
+            continue
         if mark[0] == "offline":
             written[int(words[1])].append((mark[1], ["insert", *words[2:]]))
         elif mark[1] == "answer":

@@ -47,6 +47,58 @@ const NO_FAULTS: Faults = Faults {
 /// A script that no member takes part in.
 const BAD_BEHIND_COMMENTS: &str = "# a comment\n\nfound\n";
 
+/// The first commit of a group.
+const FIRST_COMMIT: &str = "found aaaaaaaa-aaaa-aaaa-aaaa-aaaaaaaaaaaa multi 10 5 0 1 2 3\n\
+    once 1 insert t a 1\n\
+    settle\n\
+    work 2\n\
+    work 3\n\
+    show gtids 3\n";
+
+const ITS_TEXT: &str = "1 1.1 state ONLINE\n\
+    1 2.1 state ONLINE\n\
+    1 3.1 state ONLINE\n\
+    2 1.1 answer o2 begun -\n\
+    2 1.1 answer o2 changed\n\
+    2 1.1 answer o2 sent 1.1#1\n\
+    3 1.1 took 1 1.1#1 txn positive aaaaaaaa-aaaa-aaaa-aaaa-aaaaaaaaaaaa:1\n\
+    3 1.1 committed aaaaaaaa-aaaa-aaaa-aaaa-aaaaaaaaaaaa:1\n\
+    3 1.1 answer o2 committed aaaaaaaa-aaaa-aaaa-aaaa-aaaaaaaaaaaa:1\n\
+    3 2.1 took 1 1.1#1 txn positive aaaaaaaa-aaaa-aaaa-aaaa-aaaaaaaaaaaa:1\n\
+    3 3.1 took 1 1.1#1 txn positive aaaaaaaa-aaaa-aaaa-aaaa-aaaaaaaaaaaa:1\n\
+    4 2.1 done 1\n\
+    4 2.1 committed aaaaaaaa-aaaa-aaaa-aaaa-aaaaaaaaaaaa:1\n\
+    5 3.1 done 1\n\
+    5 3.1 committed aaaaaaaa-aaaa-aaaa-aaaa-aaaaaaaaaaaa:1\n\
+    6 3.1 gtids aaaaaaaa-aaaa-aaaa-aaaa-aaaaaaaaaaaa:1\n";
+
+/// How many bytes of it, and of its text, there are up to the end of each line.
+const ITS_LINES: [(usize, usize); 6] = [
+    (62, 57),
+    (82, 132),
+    (89, 465),
+    (96, 533),
+    (103, 601),
+    (116, 652),
+];
+
+// The text of the whole lines among so many bytes of the first commit.
+fn text_behind(alloc: Global, pulled: usize) -> Result<Vec<u8>, Fail> {
+    let mut count = 0usize;
+    for (read, written) in ITS_LINES.iter() {
+        if *read <= pulled {
+            count = *written;
+        }
+    }
+    let mut text = Vec::new(alloc);
+    for (at, byte) in ITS_TEXT.as_bytes().iter().enumerate() {
+        if at < count {
+            text.push(*byte)?;
+        }
+    }
+    Ok(text)
+}
+
 fn expanded(alloc: Global, text: &str) -> Result<Vec<u8>, Fail> {
     let mut bytes = Vec::new(alloc);
     for byte in text.as_bytes().iter() {
@@ -80,6 +132,7 @@ fn outcome(alloc: Global, case: &Case, most: usize, faults: Faults) -> Result<(u
 fn scripts_have_their_texts_and_statuses(rt: HostRuntime) -> Result<(), Fail> {
     let cases = [
         play("", "", 0),
+        play(FIRST_COMMIT, ITS_TEXT, 0),
         play("# x\n   \n\n # y", "4 bad line\n", 5),
         play("# x\n   \n\n# y", "", 0),
         play("begin 1 x\n", "1 bad line\n", 5),
@@ -112,24 +165,40 @@ fn scripts_have_their_texts_and_statuses(rt: HostRuntime) -> Result<(), Fail> {
     Ok(())
 }
 
+// Each pull fails in turn, the last one at the end: what was written is the text of the lines pulled before.
 #[test]
-fn sources_and_sinks_fail(rt: HostRuntime) -> Result<(), Fail> {
-    let case = play(BAD_BEHIND_COMMENTS, "3 bad line\n", 5);
-    for pull in 1..4u64 {
+fn sources_fail(rt: HostRuntime) -> Result<(), Fail> {
+    let case = play(FIRST_COMMIT, ITS_TEXT, 0);
+    let mut pulled = 0usize;
+    for pull in 1..19u64 {
         let faults = Faults { pull, ..NO_FAULTS };
         let (status, text) = outcome(rt.alloc(), &case, 7, faults)?;
-        assert_eq!(rt; (status, text.len()), (3, 0));
+        let wanted = text_behind(rt.alloc(), pulled)?;
+        assert_eq!(rt; (status, text.as_slice()), (3, wanted.as_slice()));
+        pulled = pulled.saturating_add(7);
     }
-    for push in 1..3u64 {
+    Ok(())
+}
+
+// Each push fails in turn, and takes nothing in turn: what was written is the text of the lines before.
+#[test]
+fn sinks_fail(rt: HostRuntime) -> Result<(), Fail> {
+    let case = play(FIRST_COMMIT, ITS_TEXT, 0);
+    let mut push = 1u64;
+    let mut pulled = 0usize;
+    for (read, _) in ITS_LINES.iter() {
+        let wanted = text_behind(rt.alloc(), pulled)?;
         let faults = Faults { push, ..NO_FAULTS };
-        let (status, _) = outcome(rt.alloc(), &case, 7, faults)?;
-        assert_eq!(rt; status, if push == 1 { 4 } else { 5 });
+        let (status, text) = outcome(rt.alloc(), &case, 7, faults)?;
+        assert_eq!(rt; (status, text.as_slice()), (4, wanted.as_slice()));
+        let faults = Faults {
+            idle: push,
+            ..NO_FAULTS
+        };
+        let (status, text) = outcome(rt.alloc(), &case, 7, faults)?;
+        assert_eq!(rt; (status, text.as_slice()), (4, wanted.as_slice()));
+        push = push.saturating_add(1);
+        pulled = *read;
     }
-    let faults = Faults {
-        idle: 1,
-        ..NO_FAULTS
-    };
-    let (status, text) = outcome(rt.alloc(), &case, 7, faults)?;
-    assert_eq!(rt; (status, text.len()), (4, 0));
     Ok(())
 }
