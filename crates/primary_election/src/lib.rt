@@ -2,6 +2,8 @@
 #![tactic(auto)]
 
 mod election;
+#[cfg(test)]
+mod tests;
 mod versions;
 mod weights;
 

@@ -1,5 +1,5 @@
+use crate::{BadWeight, VersionFault, elect, read_version, read_weight};
 use gr_ids::Inc;
-use primary_election::{BadWeight, VersionFault, elect, read_version, read_weight};
 use slot_values::Joiner;
 use std::test::Fail;
 
