@@ -1,7 +1,8 @@
-use gr_ids::{Ballot, Inc, Sequence, ValueId};
+use gr_ids::{Ballot, Inc, Memory, Sequence, ValueId};
 use message_checks::is_message;
 use paxos_forms::{Message, Wire};
 use slot_values::{Value, Vote, What};
+use std::alloc::Global;
 use std::test::Fail;
 
 fn inc(server: u8) -> Inc {
@@ -33,27 +34,30 @@ fn vote(slot: u64) -> Vote {
     }
 }
 
+fn is_one(from: u8, to: u8, wire: Wire) -> bool {
+    is_message(&between(from, to, wire))
+}
+
 #[test]
 fn messages_are_within_their_ranges(rt: HostRuntime) -> Result<(), Fail> {
-    assert!(rt; is_message(&between(1, 32, Wire::Gone)));
-    assert!(rt; !is_message(&between(1, 33, Wire::Gone)));
-    assert!(rt; is_message(&between(1, 2, Wire::Alive((1 << 42) + 1))));
-    assert!(rt; !is_message(&between(1, 2, Wire::Alive(0))));
+    assert!(rt; is_one(1, 32, Wire::Gone));
+    assert!(rt; !is_one(1, 33, Wire::Gone));
+    assert!(rt; is_one(1, 2, Wire::Alive((1 << 42) + 1)));
+    assert!(rt; !is_one(1, 2, Wire::Alive(0)));
     Ok(())
+}
+
+// A Promise from slot 4 on, with votes in these slots.
+fn promise(alloc: Global, one: u64, two: u64) -> Result<Wire, Memory> {
+    let mut votes = Vec::new(alloc);
+    votes.push(vote(one))?;
+    votes.push(vote(two))?;
+    Ok(Wire::Promise(vote(1).ballot, 4, Sequence::from_vec(votes)))
 }
 
 #[test]
 fn votes_ascend(rt: HostRuntime) -> Result<(), Fail> {
-    let ballot = vote(1).ballot;
-    let mut rising = Vec::new(rt.alloc());
-    rising.push(vote(4))?;
-    rising.push(vote(5))?;
-    let promise = Wire::Promise(ballot, 4, Sequence::from_vec(rising));
-    assert!(rt; is_message(&between(2, 1, promise)));
-    let mut twice = Vec::new(rt.alloc());
-    twice.push(vote(4))?;
-    twice.push(vote(4))?;
-    let promise = Wire::Promise(ballot, 4, Sequence::from_vec(twice));
-    assert!(rt; !is_message(&between(2, 1, promise)));
+    assert!(rt; is_one(2, 1, promise(rt.alloc(), 4, 5)?));
+    assert!(rt; !is_one(2, 1, promise(rt.alloc(), 4, 4)?));
     Ok(())
 }

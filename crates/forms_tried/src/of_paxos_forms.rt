@@ -1,3 +1,5 @@
+ghost use Rattle.paxos_forms.specs.Messages.{IsMessage};
+
 use gr_ids::Inc;
 use paxos_forms::{Message, MessageFault, Wire, decode, encode};
 use std::alloc::Global;
@@ -48,12 +50,30 @@ const MESSAGES: [&[u8]; 11] = [
     b"\x02\0\0\0\x01\x01\0\0\0\x01\x0b",
 ];
 
-// What was decoded is encoded as the same bytes.
-fn is_read_back(rt: &impl Abort, alloc: Global, bytes: &[u8]) -> Result<(), Fail> {
-    let message = decode(alloc, bytes)?;
-    let again = encode(alloc, &message.try_copy(alloc)?)?;
-    assert_eq!(rt; again.as_slice(), bytes);
-    Ok(())
+fn is_spelled(alloc: Global, message: &Message, bytes: &[u8]) -> bool
+    requires { IsMessage message.now }
+{
+    match encode(alloc, message) {
+        Ok(spelled) => spelled.as_slice() == bytes,
+        Err(_) => false,
+    }
+}
+
+fn is_copy_spelled(alloc: Global, message: &Message, bytes: &[u8]) -> bool
+    requires { IsMessage message.now }
+{
+    match message.try_copy(alloc) {
+        Ok(copy) => is_spelled(alloc, &copy, bytes),
+        Err(_) => false,
+    }
+}
+
+// A copy of what was decoded is encoded as the same bytes.
+fn is_read_back(alloc: Global, bytes: &[u8]) -> bool {
+    match decode(alloc, bytes) {
+        Ok(message) => is_copy_spelled(alloc, &message, bytes),
+        Err(_) => false,
+    }
 }
 
 // Cut anywhere, it is refused at its end.
@@ -78,7 +98,7 @@ fn is_refused_with_more(rt: &impl Abort, alloc: Global, bytes: &[u8]) -> Result<
 #[test]
 fn messages_are_read_back_and_refused_at_each_cut(rt: HostRuntime) -> Result<(), Fail> {
     for bytes in MESSAGES.iter() {
-        is_read_back(&rt, rt.alloc(), bytes)?;
+        assert!(rt; is_read_back(rt.alloc(), bytes));
         is_refused_at_each_cut(&rt, rt.alloc(), bytes);
         is_refused_with_more(&rt, rt.alloc(), bytes)?;
     }
@@ -154,54 +174,76 @@ fn faults_are_named(rt: HostRuntime) {
         ),
     ];
     for (bytes, at) in rows.iter() {
-        assert_eq!(rt;
-            decode(rt.alloc(), bytes).err(),
-            Some(MessageFault::BadMessage { at: *at })
-        );
+        assert!(rt; is_refused_at(rt.alloc(), bytes, *at));
+    }
+}
+
+// Alive with number 2, from 2.1 to 1.1.
+const ALIVE: &[u8] = b"\x02\0\0\0\x01\x01\0\0\0\x01\x0a\0\0\0\0\0\0\0\x02";
+
+const SENDER: Inc = Inc {
+    server: 2,
+    start: 1,
+};
+
+const ADDRESSEE: Inc = Inc {
+    server: 1,
+    start: 1,
+};
+
+fn alive() -> Message
+    ensures { IsMessage result }
+{
+    Message {
+        from: SENDER,
+        to: ADDRESSEE,
+        wire: Wire::Alive(2),
+    }
+}
+
+fn is_alive(message: &Message) -> bool {
+    let is_between = message.from == SENDER && message.to == ADDRESSEE;
+    is_between && matches!(message.wire, Wire::Alive(2))
+}
+
+fn is_alive_read(alloc: Global) -> bool {
+    match decode(alloc, ALIVE) {
+        Ok(message) => is_alive(&message),
+        Err(_) => false,
     }
 }
 
 #[test]
 fn alive_is_spelled_as_worked(rt: HostRuntime) -> Result<(), Fail> {
-    let alive = Message {
-        from: Inc {
-            server: 2,
-            start: 1,
-        },
-        to: Inc {
-            server: 1,
-            start: 1,
-        },
-        wire: Wire::Alive(2),
-    };
-    let spelled = b"\x02\0\0\0\x01\x01\0\0\0\x01\x0a\0\0\0\0\0\0\0\x02".as_slice();
-    let bytes = encode(rt.alloc(), &alive)?;
-    assert_eq!(rt; bytes.as_slice(), spelled);
-    let read = decode(rt.alloc(), spelled)?;
-    assert_eq!(rt; (read.from, read.to), (alive.from, alive.to));
-    assert!(rt; matches!(read.wire, Wire::Alive(2)));
+    assert!(rt; is_spelled(rt.alloc(), &alive(), ALIVE));
+    assert!(rt; is_alive_read(rt.alloc()));
     Ok(())
 }
 
-// A Give with one open part of 3, of 65,523 bytes; then with a count one less, and without its last byte.
+// The beginning of a Give with one open part of 3, of 65,523 bytes, up to the last byte of that length.
+const OPEN_PART: &[u8] =
+    b"\x02\0\0\0\x01\x01\0\0\0\x01\x09\0\0\0\0\0\0\0\x07\0\0\0\0\0\0\0\x07\0\0\0\0\0\0\
+    \0\0\0\0\0\0\0\0\0\0\0\0\0\0\0\0\0\x01\x01\0\0\0\x01\0\0\0\x03\0\0\0\x01\0\0\xff";
+
+fn open_part(alloc: Global, last: u8, length: usize) -> Result<Vec<u8>, Fail> {
+    let mut bytes = OPEN_PART.to_vec(alloc)?;
+    bytes.push(last)?;
+    bytes.resize(length, b'x')?;
+    Ok(bytes)
+}
+
+fn is_refused_at(alloc: Global, bytes: &[u8], at: u64) -> bool {
+    decode(alloc, bytes).err() == Some(MessageFault::BadMessage { at })
+}
+
+// As it is; then with a count one less, and without its last byte.
 #[test]
 fn open_parts_have_their_length(rt: HostRuntime) -> Result<(), Fail> {
-    let mut bytes =
-        b"\x02\0\0\0\x01\x01\0\0\0\x01\x09\0\0\0\0\0\0\0\x07\0\0\0\0\0\0\0\x07\0\0\0\0\0\0\
-            \0\0\0\0\0\0\0\0\0\0\0\0\0\0\0\0\0\x01\x01\0\0\0\x01\0\0\0\x03\0\0\0\x01\0\0\xff\
-            \xf3"
-            .to_vec(rt.alloc())?;
-    assert_eq!(rt; bytes.len(), 68);
-    bytes.resize(65_591, b'x')?;
-    assert_eq!(rt; bytes.len(), 65_591);
-    is_read_back(&rt, rt.alloc(), &bytes)?;
-    is_refused_with_more(&rt, rt.alloc(), &bytes)?;
-    bytes[67] = 0xf2;
-    let less = MessageFault::BadMessage { at: 67 };
-    assert_eq!(rt; decode(rt.alloc(), &bytes).err(), Some(less));
-    bytes[67] = 0xf3;
-    bytes.truncate(65_590);
-    let cut = MessageFault::BadMessage { at: 65_590 };
-    assert_eq!(rt; decode(rt.alloc(), &bytes).err(), Some(cut));
+    let alloc = rt.alloc();
+    let whole = open_part(alloc, 0xf3, 65_591)?;
+    assert!(rt; is_read_back(alloc, &whole));
+    is_refused_with_more(&rt, alloc, &whole)?;
+    assert!(rt; is_refused_at(alloc, &open_part(alloc, 0xf2, 65_591)?, 67));
+    assert!(rt; is_refused_at(alloc, &open_part(alloc, 0xf3, 65_590)?, 65_590));
     Ok(())
 }

@@ -45,22 +45,32 @@ fn kept(slot: u64) -> Kept {
     }
 }
 
+fn take(rt: &impl Abort, alloc: Global, turns: &mut Turns, slot: u64) -> Result<(), Memory> {
+    let before = turns.at(alloc)?;
+    assert!(rt; before.slot < 1 << 42);
+    assert!(rt; turns.take(alloc, &chosen(slot))? == kept(slot));
+    Ok(())
+}
+
 fn take_six(rt: &impl Abort, alloc: Global, turns: &mut Turns) -> Result<(), Memory> {
     for slot in 1..7 {
-        let before = turns.at(alloc)?;
-        assert!(rt; before.slot < 1 << 42);
-        assert_eq!(rt; turns.take(alloc, &chosen(slot)), Ok(kept(slot)));
+        take(rt, alloc, turns, slot)?;
     }
     Ok(())
 }
 
 fn check_configs(rt: &impl Abort, turns: &mut Turns) {
-    assert_eq!(rt; turns.config(10), Some([A, B, C].as_slice()));
-    assert_eq!(rt; turns.config(14), Some([A, C].as_slice()));
-    assert_eq!(rt; turns.config(15), Some([A].as_slice()));
-    assert_eq!(rt; (turns.config(0), turns.config(17)), (None, None));
+    assert!(rt; turns.config(10) == Some([A, B, C].as_slice()));
+    assert!(rt; turns.config(14) == Some([A, C].as_slice()));
+    assert!(rt; turns.config(15) == Some([A].as_slice()));
+    assert!(rt; turns.config(0).is_none() && turns.config(17).is_none());
     turns.forget(6);
     assert!(rt; turns.config(5).is_none() && turns.config(6).is_some());
+}
+
+fn check_members(rt: &impl Abort, turns: &Turns) {
+    assert!(rt; turns.members() == [A].as_slice());
+    assert_eq!(rt; (turns.last(A), turns.last(B), turns.last(C)), (2, 0, 1));
 }
 
 #[test]
@@ -69,8 +79,7 @@ fn values_are_kept_once_and_a_remove_rules_behind_the_horizon(
 ) -> Result<(), Memory> {
     let mut turns = Turns::new(rt.alloc(), &[A, B, C], 10)?;
     take_six(&rt, rt.alloc(), &mut turns)?;
-    assert_eq!(rt; turns.members(), [A].as_slice());
-    assert_eq!(rt; (turns.last(A), turns.last(B), turns.last(C)), (2, 0, 1));
+    check_members(&rt, &turns);
     check_configs(&rt, &mut turns);
     Ok(())
 }

@@ -1,9 +1,11 @@
-ghost use Rattle.std.specs.Prelude.{IfOk};
+ghost use Rattle.std.specs.Prelude.{IfOk, None};
+ghost use Rattle.byte_forms.specs.Lists.{IsChain};
 ghost use Rattle.name_forms.specs.Incs.{IsInc};
+ghost use Rattle.name_forms.specs.OpenParts.{IsOpenAfter};
 ghost use Rattle.txn_forms.specs.Bodies.{IsPart};
 
 use byte_forms::{Packer, put_counted};
-use gr_ids::Inc;
+use gr_ids::{Inc, OpenParts, Sequence};
 use std::alloc::{AllocError, Global};
 use std::process::Abort;
 use std::test::Fail;
@@ -113,10 +115,7 @@ fn faults_are_named(rt: HostRuntime) {
         (b"\x08\0\0\0\x02\0\0\0\x02\0\0\0\0", 12),
     ];
     for (bytes, at) in rows.iter() {
-        assert_eq!(rt;
-            decode(rt.alloc(), bytes).err(),
-            Some(BodyFault::BadBody { at: *at })
-        );
+        assert!(rt; decode(rt.alloc(), bytes).err() == Some(BodyFault::BadBody { at: *at }));
     }
 }
 
@@ -172,58 +171,145 @@ fn large_body(alloc: Global) -> Result<Vec<u8>, AllocError> {
     Ok(body)
 }
 
-#[test]
-fn parts_join_to_a_large_transaction(rt: HostRuntime) -> Result<(), Fail> {
-    let whole = large_body(rt.alloc())?;
+/// A part of a server, what becomes of it, and how many large bodies are unfinished then.
+#[derive(Clone, Copy)]
+struct Row<'a> {
+    server: u8,
+    index: u32,
+    count: u32,
+    bytes: &'a [u8],
+    outcome: Outcome,
+    unfinished: usize,
+}
+
+fn opens<'a>(server: u8, count: u32, bytes: &'a [u8], unfinished: usize) -> Row<'a> {
+    Row {
+        server,
+        index: 1,
+        count,
+        bytes,
+        outcome: Outcome::Open,
+        unfinished,
+    }
+}
+
+fn ends<'a>(count: u32, bytes: &'a [u8], outcome: Outcome) -> Row<'a> {
+    Row {
+        server: 1,
+        index: 2,
+        count,
+        bytes,
+        outcome,
+        unfinished: 0,
+    }
+}
+
+fn take(
+    rt: &impl Abort,
+    alloc: Global,
+    parts: &mut Parts,
+    whole: &[u8],
+    row: &Row,
+) -> Result<(), Fail> {
+    let part = part(alloc, row.index, row.count, row.bytes)?;
+    let joined = parts.take(alloc, inc(row.server), part)?;
+    assert!(rt; outcome_of(&joined, whole) == Some(row.outcome));
+    assert_eq!(rt; parts.unfinished().len(), row.unfinished);
+    Ok(())
+}
+
+fn take_all(
+    rt: &impl Abort,
+    alloc: Global,
+    parts: &mut Parts,
+    whole: &[u8],
+    rows: &[Row],
+) -> Result<(), Fail> {
+    for row in rows.iter() {
+        take(rt, alloc, parts, whole, row)?;
+    }
+    Ok(())
+}
+
+// Part 3 of the second server comes where part 2 is missing.
+fn join(rt: &impl Abort, alloc: Global, parts: &mut Parts, whole: &[u8]) -> Result<(), Fail> {
+    assert_eq!(rt; whole.len(), 80_040);
+    let (first, rest) = whole.split_at(65_523);
+    let missed = Row {
+        server: 2,
+        index: 3,
+        count: 3,
+        bytes: rest,
+        outcome: Outcome::Void,
+        unfinished: 1,
+    };
+    let rows = [
+        opens(1, 2, first, 1),
+        opens(2, 3, first, 2),
+        missed,
+        ends(2, rest, Outcome::Whole),
+        // nothing is open
+        ends(2, rest, Outcome::Void),
+    ];
+    take_all(rt, alloc, parts, whole, &rows)
+}
+
+fn fail(rt: &impl Abort, alloc: Global, parts: &mut Parts, whole: &[u8]) -> Result<(), Fail> {
     assert_eq!(rt; whole.len(), 80_040);
     let (first, rest) = whole.split_at(65_523);
     assert_eq!(rt; rest.len(), 14_517);
-    let (short, _) = rest.split_at(14_516);
     let (few, _) = rest.split_at(13);
+    let (short, _) = rest.split_at(14_516);
+    let again = opens(1, 2, first, 1);
     let rows = [
-        (1, 1, 2, first, Outcome::Open, 1),
-        (2, 1, 3, first, Outcome::Open, 2),
-        // part 2 is missing
-        (2, 3, 3, rest, Outcome::Void, 1),
-        (1, 2, 2, rest, Outcome::Whole, 0),
-        // nothing is open
-        (1, 2, 2, rest, Outcome::Void, 0),
-        (1, 1, 2, first, Outcome::Open, 1),
+        again,
         // it begins again
-        (1, 1, 2, first, Outcome::Open, 1),
+        again,
         // of another count
-        (1, 2, 3, first, Outcome::Void, 0),
-        (1, 1, 2, first, Outcome::Open, 1),
+        ends(3, first, Outcome::Void),
+        again,
         // 65,536 bytes are no large body
-        (1, 2, 2, few, Outcome::Void, 0),
-        (1, 1, 2, first, Outcome::Open, 1),
+        ends(2, few, Outcome::Void),
+        again,
         // the last byte of the body is missing
-        (1, 2, 2, short, Outcome::Void, 0),
+        ends(2, short, Outcome::Void),
     ];
+    take_all(rt, alloc, parts, whole, &rows)
+}
+
+#[test]
+fn parts_join_to_a_large_transaction(rt: HostRuntime) -> Result<(), Fail> {
+    let whole = large_body(rt.alloc())?;
     let mut parts = Parts::new(rt.alloc());
-    for (server, index, count, bytes, expected, open) in rows.iter() {
-        let part = part(rt.alloc(), *index, *count, bytes)?;
-        let joined = parts.take(rt.alloc(), inc(*server), part)?;
-        assert_eq!(rt; outcome_of(&joined, &whole), Some(*expected));
-        assert_eq!(rt; parts.unfinished().len(), *open);
-    }
-    Ok(())
+    join(&rt, rt.alloc(), &mut parts, &whole)?;
+    fail(&rt, rt.alloc(), &mut parts, &whole)
+}
+
+// The parts that are open when the first part has come.
+fn open_first(rt: &impl Abort, alloc: Global, whole: &[u8]) -> Result<Sequence<OpenParts>, Fail>
+    ensures { IfOk result (λ parts. IsChain IsOpenAfter None parts) }
+{
+    assert_eq!(rt; whole.len(), 80_040);
+    let (first, _) = whole.split_at(65_523);
+    let mut parts = Parts::new(alloc);
+    take(rt, alloc, &mut parts, whole, &opens(1, 2, first, 1))?;
+    let copy = parts.copy_open(alloc)?;
+    parts.left(inc(1));
+    assert_eq!(rt; parts.unfinished().len(), 0);
+    Ok(copy)
 }
 
 #[test]
 fn open_parts_are_taken_up_again(rt: HostRuntime) -> Result<(), Fail> {
     let whole = large_body(rt.alloc())?;
     assert_eq!(rt; whole.len(), 80_040);
-    let (first, rest) = whole.split_at(65_523);
-    let mut parts = Parts::new(rt.alloc());
-    let joined = parts.take(rt.alloc(), inc(1), part(rt.alloc(), 1, 2, first)?)?;
-    assert_eq!(rt; outcome_of(&joined, &whole), Some(Outcome::Open));
-    let copy = parts.copy_open(rt.alloc())?;
-    parts.left(inc(1));
-    assert_eq!(rt; parts.unfinished().len(), 0);
-    let mut again = Parts::resume(copy);
-    let joined = again.take(rt.alloc(), inc(1), part(rt.alloc(), 2, 2, rest)?)?;
-    assert_eq!(rt; outcome_of(&joined, &whole), Some(Outcome::Whole));
-    assert_eq!(rt; again.unfinished().len(), 0);
-    Ok(())
+    let (_, rest) = whole.split_at(65_523);
+    let mut again = Parts::resume(open_first(&rt, rt.alloc(), &whole)?);
+    take(
+        &rt,
+        rt.alloc(),
+        &mut again,
+        &whole,
+        &ends(2, rest, Outcome::Whole),
+    )
 }
