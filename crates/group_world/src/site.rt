@@ -14,6 +14,7 @@ use kept_server::KeptServer;
 use member_core::{Event, Member, StepLeft};
 use plain_steps::steps_are_plain;
 use std::alloc::Global;
+use std::mem;
 
 /// Whether an incarnation of a server runs.
 #[derive(Drop)]
@@ -83,6 +84,23 @@ impl Site {
             Stay::Stopped(_) => Ok(false),
             Stay::Running(member) => Ok(member.least_work(alloc)?.is_some()),
         }
+    }
+}
+
+impl Site {
+    /// Takes out what stands here; for now nothing runs, and nothing is kept.
+    pub(crate) fn take_stay(&mut self, alloc: Global) -> Stay
+        ensures stay { result ≡ self.old.stay }
+        ensures beside { self.new ≡ record self.old { stay = self.new.stay } }
+    {
+        mem::replace(&mut self.stay, Stay::Stopped(KeptServer::new(alloc)))
+    }
+
+    /// From now on this stands here.
+    pub(crate) fn put_stay(&mut self, stay: Stay)
+        ensures { self.new ≡ record self.old { stay = stay } }
+    {
+        self.stay = stay;
     }
 }
 

@@ -13,6 +13,7 @@ ghost use Rattle.member_core.specs.Standing.{HasStarted};
 ghost use Rattle.world_servers.specs.Naming.{declared_of};
 ghost use Rattle.group_world.specs.Changing.{HasBegun, HaveBegun, Tells};
 ghost use Rattle.group_world.specs.Sites.{AreSites, IsSite, Rises};
+ghost use Rattle.group_world.specs.declared.site.Stay.TheVariants.{Running as Runs};
 ghost use Rattle.group_world.specs.Standing.{Ends, Goes};
 
 use crate::founding::Founding;
@@ -28,7 +29,6 @@ use message_checks::{is_inc, is_joiner};
 use play_runs::plays_are_runs;
 use slot_values::Joiner;
 use std::alloc::Global;
-use std::mem;
 use world_servers::DeclaredServer;
 use world_wire::WireFault;
 
@@ -97,19 +97,30 @@ impl Site {
     ) -> Result<Option<Turn>, Memory>
         ensures { IfOk result (λ o. (s : Server) → IsSite s self.old → me ≡ joiner_of s (suc s.starts) → HasBegun (setup_with founding.now.limits founding.now.mode founding.now.founders.items) contact s o self.new) }
     {
-        let none = Stay::Stopped(KeptServer::new(alloc));
-        match mem::replace(&mut self.stay, none) {
+        match self.take_stay(alloc) {
             Stay::Running(member) => {
-                self.stay = Stay::Running(member);
+                self.put_stay(Stay::Running(member));
                 Ok(None)
             }
-            Stay::Stopped(kept) => {
-                let Started { member, sent } = started(alloc, kept, me, contact, founding)?;
-                self.starts = me.inc.start;
-                self.stay = Stay::Running(member);
-                Ok(Some(first_turn(alloc, me.inc, sent)?))
-            }
+            Stay::Stopped(kept) => match started(alloc, kept, me, contact, founding) {
+                Err(_) => Err(Memory),
+                Ok(begun) => match self.begin(alloc, me.inc, begun) {
+                    Err(_) => Err(Memory),
+                    Ok(turn) => Ok(Some(turn)),
+                },
+            },
         }
+    }
+
+    // The incarnation runs from now on; what it leaves as it starts.
+    fn begin(&mut self, alloc: Global, inc: Inc, begun: Started) -> Result<Turn, Memory>
+        ensures turn { IfOk result (λ x. (x.inc ≡ inc) × (x.left.marks.items ≡ State Offline JustStarted ∷ []) × (x.left.sent.items ≡ begun.sent.items)) }
+        ensures site { OnOk result (self.new ≡ record { number = self.old.number; starts = inc.start; stay = Runs begun.member }) }
+    {
+        let Started { member, sent } = begun;
+        self.starts = inc.start;
+        self.put_stay(Stay::Running(member));
+        first_turn(alloc, inc, sent)
     }
 }
 

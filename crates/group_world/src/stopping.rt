@@ -14,7 +14,6 @@ use gr_ids::Memory;
 use kept_server::KeptServer;
 use play_runs::plays_are_runs;
 use std::alloc::Global;
-use std::mem;
 
 impl Stage {
     /// The incarnation that runs at the server stops; its server keeps what it has. Nothing happens where the server isn't declared.
@@ -42,10 +41,13 @@ impl Site {
     fn stop(&mut self, alloc: Global) -> Result<(), Memory>
         ensures { OnOk result ((s : Server) → IsSite s self.old → IsSite (stopped s) self.new) }
     {
-        let none = Stay::Stopped(KeptServer::new(alloc));
-        let stay = mem::replace(&mut self.stay, none);
-        self.stay = Stay::Stopped(kept_of(stay)?);
-        Ok(())
+        match kept_of(self.take_stay(alloc)) {
+            Err(_) => Err(Memory),
+            Ok(kept) => {
+                self.put_stay(Stay::Stopped(kept));
+                Ok(())
+            }
+        }
     }
 }
 
